@@ -6,16 +6,14 @@ from dataclasses import dataclass
 
 # Where no build was here before: seconds a byte of sources, of a library that has one processor for itself, and what is
 # left of that where there are four to share, as the last libraries get all of them; seconds of the program
-RATE = 4900 / 4_340_000
-SHARED = 0.65
-PROGRAM = 480.0
+RATE, SHARED, PROGRAM = 4900 / 4_340_000, 0.65, 480.0
 # seconds of a library that is built already
 SAME = 5.0
 
 
 @dataclass
 class Part:
-    """A library, or the program: the size of its sources, their checksum with all below, and what is above it."""
+    """A library, or the program: the size of its sources, their checksum with all below, and what is below it."""
 
     size: int
     sum: str
@@ -39,33 +37,21 @@ class Figures:
         self.taken, self.guessed = 0.0, 0.0
 
     def expected(self, name: str) -> float:
-        """The seconds that a part takes, as far as one knows."""
+        """The seconds that a part takes, as far as one knows: as many as the longest work on it that was done."""
         part, last = self.parts[name], self.last.get(name)
-        if last and last["sum"] == part.sum and part.is_built and not last.get("partly"):
-            return SAME
-        if last and last["seconds"] > SAME:
-            whole = float(last.get("whole", last["seconds"]))
-            return max(whole - last["seconds"], SAME) if last.get("partly") else whole
+        if last:
+            return SAME if part.is_built and last["sum"] == part.sum else last["seconds"]
         rate = RATE * SHARED if self.processors >= 4 else RATE
         return PROGRAM if name == self.program else part.size * rate
 
-    def note(self, name: str, seconds: float, is_done: bool) -> None:
-        """Keeps how long a part took. Of one that was stopped, the next build counts on from there."""
-        part, last, expected = self.parts[name], self.last.get(name, {}), self.expected(name)
-        before = last["seconds"] if last.get("partly") else 0.0
-        made: dict = {"seconds": round(before + seconds, 1), "sum": part.sum}
-        if not is_done:
-            if expected == SAME:
-                return
-            made |= {"partly": True, "whole": round(before + max(expected, seconds), 1)}
-        elif part.is_built and not last.get("partly"):
-            # little or nothing was to be done: what it takes from nothing stays known
-            made["seconds"] = max(made["seconds"], last.get("seconds", 0.0))
-            if seconds < 10 * SAME and not last:
-                return
-        elif expected > SAME:
+    def note(self, name: str, seconds: float) -> None:
+        """Keeps how long a part took that is done, unless little was to do and nothing is known of it."""
+        if self.parts[name].is_built and name not in self.last:
+            return
+        expected, before = self.expected(name), self.last.get(name, {"seconds": 0.0})["seconds"]
+        if expected > SAME:
             self.taken, self.guessed = self.taken + seconds, self.guessed + expected
-        self.last[name] = made
+        self.last[name] = {"seconds": round(max(seconds, before), 1), "sum": self.parts[name].sum}
         self.file.write_text(json.dumps(self.last, indent=1, sort_keys=True) + "\n")
 
     def left(self, done: list[str], at_work: Mapping[str, tuple[float, float]]) -> float:

@@ -1,24 +1,17 @@
-"""What a preview of the program, or a build of it, needs of the machine. Each thing that is missing is one line.
-
-    .ci/build_needs.py preview|build
-
-The exit status is 2 where something is missing, and standard error says what, and what to do.
-"""
+"""What a build of the program, or a preview, needs of the machine."""
 import os
 import pathlib
 import re
 import shutil
-import sys
 import tempfile
 
-TOP = pathlib.Path(__file__).resolve().parent.parent
-OUT = TOP / "crates/office/out"
+from shared import OUT, TOP
+
 GB = 1_000_000_000
-# the free memory that is needed: the largest check of a build takes 6.4 GB, a preview 4.3 GB
-MEMORY = {"preview": 5 * GB, "build": 7 * GB}
-# the free disk that is needed: a build from nothing leaves 9.5 GB, and one that goes on needs what is not there yet
-DISK = {"preview": GB, "build": 10 * GB}
-LEAST = 2 * GB
+# the free memory that is needed: the largest check of a build takes 6.4 GB, a preview 4.3 GB, that of two commands 0.6
+MEMORY = {"build": 7 * GB, "preview": 5 * GB, "preview of due and plan": 2 * GB}
+# the free disk that is needed: a build from nothing leaves 9.5 GB; one that goes on needs what is not there yet
+DISK, LEAST, PREVIEW_DISK = 10 * GB, 2 * GB, GB
 
 
 def number_in(file: str) -> int | None:
@@ -41,58 +34,26 @@ def free_memory() -> int | None:
     return free if most is None or used is None else min(free, max(most - used, 0))
 
 
-def room(folder: pathlib.Path) -> int:
-    """The bytes that can be written into a folder, or into the nearest one above it that is there."""
-    while not folder.exists():
-        folder = folder.parent
-    return shutil.disk_usage(folder).free
+def lacks_disk(work: str, place: pathlib.Path, needed: int, remedy: str) -> str | None:
+    free = shutil.disk_usage(place).free
+    return None if free >= needed else (
+        f"a {work} needs {needed / GB:.0f} GB of free disk in {place}, and {free / GB:.1f} GB are free: "
+        f"remove other files, or {remedy}")
 
 
-def there() -> int:
-    """The bytes that earlier builds left, a file with several names once."""
-    found = {}
-    for out in (TOP / "crates").glob("*/out"):
-        for folder, _, names in os.walk(out):
-            for name in names:
-                it = os.lstat(os.path.join(folder, name))
-                found[it.st_ino] = it.st_size
-    return sum(found.values())
-
-
-def can_write() -> bool:
-    """Whether the folders that a build writes into can be made and written."""
-    places = [OUT, *(TOP / "crates").glob("*/out"), TOP / "crates/office"]
-    return all(os.access(it, os.W_OK | os.X_OK) for it in places if it.exists())
-
-
-def missing(what: str) -> str | None:
-    """What is missing for a preview or a build, as a line that says what to do."""
+def missing(work: str) -> str | None:
+    """What is missing for a work, as a line that says what to do."""
     if shutil.which("rt") is None:
         return ("there is no 'rt' on the PATH: install the Rattle kit and put its folder 'bin' there, as in "
                 "PATH=/opt/rattle/bin:$PATH; an office_VERSION_amd64.deb needs no kit")
-    if what == "build" and not can_write():
+    outs = [it for it in (TOP / "crates").glob("*/out") if it.exists()]
+    if not all(os.access(it, os.W_OK | os.X_OK) for it in (TOP / "crates/office", *outs)):
         return f"{TOP} cannot be written by you: give yourself the right, or clone into a folder of your own"
-    free, needed = free_memory(), MEMORY[what]
+    free, needed = free_memory(), MEMORY[work]
     if free is not None and free < needed:
-        return (f"a {what} needs {needed / GB:.0f} GB of free memory, and {free / GB:.1f} GB are free: "
+        return (f"a {work} needs {needed / GB:.0f} GB of free memory, and {free / GB:.1f} GB are free: "
                 "end other programs, add swap, or take a larger machine")
-    place = pathlib.Path(tempfile.gettempdir()) if what == "preview" else OUT
-    needed = DISK[what] if what == "preview" else max(DISK[what] - there(), LEAST)
-    if room(place) < needed:
-        remedy = "set TMPDIR to a folder with room" if what == "preview" else "clone elsewhere"
-        return (f"a {what} needs {needed / GB:.0f} GB of free disk in {place}, and {room(place) / GB:.1f} GB are free: "
-                f"remove other files, or {remedy}")
-    return None
-
-
-def main(words: list[str]) -> int:
-    if words not in (["preview"], ["build"]):
-        sys.exit(__doc__)
-    lack = missing(words[0])
-    if lack is not None:
-        print(f"office: {lack}", file=sys.stderr)
-    return 0 if lack is None else 2
-
-
-if __name__ == "__main__":
-    sys.exit(main(sys.argv[1:]))
+    if work != "build":
+        return lacks_disk(work, pathlib.Path(tempfile.gettempdir()), PREVIEW_DISK, "set TMPDIR to a folder with room")
+    there = sum(it.lstat().st_size for out in outs for it in out.rglob("*"))
+    return lacks_disk(work, OUT if OUT.is_dir() else TOP, max(DISK - there, LEAST), "clone elsewhere")

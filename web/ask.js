@@ -1,6 +1,7 @@
 // Requests to the paths of the office, which are in the folder above this page. Each is sent once, and no answer is kept.
 import { hear } from "./clock.js";
 import { keyFor, note } from "./plain/keys.js";
+import { isOfAnother, linesFor, noteSeen } from "./plain/seen.js";
 
 /** The address of a path, without the name and password that the page's own address may carry. */
 export function placeOf(path, page = location.href) {
@@ -31,16 +32,29 @@ async function ask(path, method, body, more = {}) {
     return NO_ANSWER;
   }
   hear(reply.headers.get("Date"), at);
+  noteSeen(placeOf(""), reply.status, reply.headers.get("Office-Position"));
   return { status: reply.status, type: reply.headers.get("Content-Type") ?? "", bytes, text: new TextDecoder().decode(bytes) };
 }
 
-export const get = (path) => ask(path, "GET");
+/** A reading, at least of the state that the page has seen: an office on several machines then answers no older one. */
+async function read(path, more = {}) {
+  const answer = await ask(path, "GET", undefined, { ...linesFor(placeOf("")), ...more });
+  return isOfAnother(placeOf(""), answer.status) ? ask(path, "GET", undefined, more) : answer;
+}
+
+export const get = (path) => read(path);
 
 /** Asks for what an act is about to be for: a member of an office on several machines then answers the newest state or none. */
-export const getNewest = (path) => ask(path, "GET", undefined, { "Office-Read": "newest" });
+export const getNewest = (path) => read(path, { "Office-Read": "newest" });
 
 /** Asks for nothing but the answer's Date, which is heard (clock.js). */
 export const askTime = () => ask("web/icon.svg", "HEAD");
+
+/** The reason that somebody wrote, for the journal of a gate; percent signs make it a line of a head. */
+function reasonLine() {
+  const text = document.getElementById("office-reason")?.value.trim();
+  return text ? { "Office-Reason": encodeURIComponent(text) } : {};
+}
 
 /**
  * Sends a request that acts, with a key of its own: the same key again if the same is sent after an answer was lost.
@@ -51,7 +65,7 @@ export const askTime = () => ask("web/icon.svg", "HEAD");
 export async function post(path, body, seen = "") {
   const sent = JSON.stringify([path, body ?? "", seen]);
   const key = keyFor(sent);
-  const answer = await ask(path, "POST", body, { "Idempotency-Key": key });
+  const answer = await ask(path, "POST", body, { "Idempotency-Key": key, ...reasonLine() });
   note(sent, key, answer.status);
   return answer;
 }

@@ -6,6 +6,7 @@ import { byId, made, paragraph, quiet } from "./page.js";
 import { isCode, isDay, isNumber, isTarget, isText, today } from "./plain/forms.js";
 import { PLAN_KINDS } from "./plain/plan_kinds.js";
 import { putNumbers } from "./refs.js";
+import { signedBy } from "./rights.js";
 import { t } from "./texts.js";
 
 /**
@@ -56,6 +57,10 @@ export function field(place) {
   place.className = "field";
   const input = inputOf(id, kind);
   if (kind.isToday) input.dataset.today = input.value = today();
+  if (dataset.field === "by" && signedBy()) {
+    input.value = signedBy();
+    input.readOnly = true;
+  }
   place.append(
     made("label", { for: id }, t(kind.label)),
     input,
@@ -125,7 +130,7 @@ export function mark(input, wrong) {
 
 /** Empties a field, and says of it no more that it is wrong. */
 export function clear(input) {
-  input.value = "";
+  if (!input.readOnly) input.value = "";
   mark(input, "");
 }
 

@@ -59,8 +59,13 @@ function comeBack() {
   VIEWS[name].renew?.();
 }
 
+/** The view that is seen. */
+let seen = "";
+
 function show(focus) {
   const [name, words] = named(location.hash);
+  const before = seen;
+  seen = name;
   for (const other of Object.keys(VIEWS)) byId(other).hidden = other !== name;
   for (const link of document.querySelectorAll("nav a")) {
     if (link.hash === `#${name}`) link.setAttribute("aria-current", "page");
@@ -69,6 +74,7 @@ function show(focus) {
   renew();
   document.title = officeName.titleOf(t(`${name}.title`));
   VIEWS[name].show(words);
+  if (before && before !== name) setTimeout(() => VIEWS[before].left?.());
   if (!focus) return;
   scrollTo(0, 0);
   byId(name).querySelector("h1").focus({ preventScroll: true });

@@ -1,20 +1,31 @@
-// What this name may do at this office, as the server that asked for it says: who may only read is offered no act.
+// What this name may do at this office, as the server that asked for it says: what is not its own to do is not offered.
 import { get } from "./ask.js";
 import { byId, paragraph, quiet, say } from "./page.js";
 import { jsonOf } from "./plain/outcomes.js";
+import { KINDS, forbidden } from "./plain/rights.js";
 import { t } from "./texts.js";
 
 /** Whether the server said that this name may only read. A server that says nothing lets the office decide. */
 let isReader = false;
+/** The text that a gate has the office record as `by`, or an empty one if anybody may write any. */
+let signs = "";
 
 /** Asks once what this name may do. */
 export async function load() {
   const answer = await get("rights");
-  isReader = answer.status === 200 && jsonOf(answer)?.acts === false;
+  const rights = answer.status === 200 ? jsonOf(answer) : undefined;
+  isReader = rights?.acts === false;
+  signs = rights?.by ?? "";
   document.body.classList.toggle("reader", isReader);
+  byId("reason").hidden = !rights?.reasons?.length;
+  const left = forbidden(rights);
+  for (const kind of KINDS) document.body.classList.toggle(`no-${kind}`, left.has(kind));
 }
 
-/** Says why a view that acts shows no form. */
+/** The text that each act names as `by`, if a gate says so: then nobody writes another. */
+export const signedBy = () => signs;
+
+/** Says why a view that acts shows no form, or not all. */
 export function tellRights() {
   const place = byId("rights");
   const acts = document.querySelector("section:not([hidden]) :is([data-field=day], #run-resume)") !== null;

@@ -65,11 +65,11 @@ def plain(text: str) -> str:
     return re.sub(r"\[([^]]+)\]\([^)]+\)", r"\1", text).replace("`", "").replace("**", "")
 
 
-def debian(all_versions: list[Version], maintainer: str) -> str:
-    """Debian's changelog."""
+def debian(all_versions: list[Version], maintainer: str, name: str = "office") -> str:
+    """Debian's changelog of a package."""
     found = []
     for it in all_versions:
-        found.append(f"office ({it.number}) stable; urgency=medium\n")
+        found.append(f"{name} ({it.number}) stable; urgency=medium\n")
         for change in it.changes or ["No change is told."]:
             wrapped = textwrap.wrap(plain(change), 74, break_long_words=False, break_on_hyphens=False)
             found.append("  * " + "\n    ".join(wrapped))

@@ -14,11 +14,15 @@ from making.words import TOP, table
 
 HERE = TOP / "packaging"
 UNITS = "lib/systemd/system"
+REPLICAS = "replicas/files"
+"""the list of the package office-replicas"""
 DOC = "usr/share/doc/office"
 # what the examples say of a machine without the package, and what is so with it
-PLACES = [("/usr/local/bin/", "/usr/bin/"), ("/usr/local/share/office", "/usr/share/office")]
+PLACES = [("/usr/local/bin/", "/usr/bin/"), ("/usr/local/share/office", "/usr/share/office"),
+          ("/usr/local/lib/office-replicas", "/usr/lib/office-replicas")]
 # files in which that is said for the machine; pages tell of both
-MACHINE = (".service", ".timer", ".conf", ".nft", "office-acts")
+MACHINE = (".service", ".timer", ".conf", ".nft", "office-acts", "city.json", "office-replicas-setup",
+           "office-replicas-renew")
 
 
 class Listed(NamedTuple):
@@ -28,21 +32,27 @@ class Listed(NamedTuple):
     folder: str
 
 
-def listed() -> list[Listed]:
-    lines = [line.split() for line in (HERE / "files").read_text().split("\n") if line and not line.startswith("#")]
+def listed(of: str = "files") -> list[Listed]:
+    """The lines of packaging/files, or of another list there."""
+    lines = [line.split() for line in (HERE / of).read_text().split("\n") if line and not line.startswith("#")]
     return [Listed(TOP / source, folder.strip("/")) for source, folder in lines]
 
 
-def units() -> list[str]:
+def units(of: str = "files") -> list[str]:
     """What systemd may have running of the package's units, as patterns."""
-    names = [it.source.name for it in listed() if it.folder == UNITS]
+    names = [it.source.name for it in listed(of) if it.folder == UNITS]
     return sorted(it.replace("@.", "@*.") for it in names)
+
+
+def is_left_out(name: pathlib.Path) -> bool:
+    """Whether a tool has made the file, as it ran."""
+    return any(it == "__pycache__" or it.startswith(".") for it in name.parts)
 
 
 def files_below(source: pathlib.Path) -> list[pathlib.Path]:
     if source.is_file():
         return [source]
-    return sorted(it for it in source.rglob("*") if it.is_file() and "__pycache__" not in it.parts)
+    return sorted(it for it in source.rglob("*") if it.is_file() and not is_left_out(it.relative_to(source)))
 
 
 def put(text: str | bytes, to: pathlib.Path, mode: int = 0o644) -> None:
@@ -86,33 +96,53 @@ def put_completion(to: pathlib.Path) -> None:
     put(text.replace("@WORDS@", " ".join(it.name for it in words)).replace("    # @OPERANDS@", operands), to)
 
 
-def put_manuals(top: pathlib.Path, last: Version) -> None:
+def scripts_in(of: str) -> list[str]:
+    return sorted(it.source.name for it in listed(of) if it.folder == "usr/bin")
+
+
+def put_manuals(top: pathlib.Path, last: Version, of: str) -> None:
+    """The manual page of each script of a list."""
     pages = top / "usr/share/man/man1"
-    scripts = sorted(it.source.name for it in listed() if it.folder == "usr/bin")
-    put_packed(manual.office(last.number, str(last.day), scripts), pages / "office.1.gz")
-    for name in scripts:
+    for name in scripts_in(of):
         text = (top / "usr/bin" / name).read_text()
         put_packed(manual.script(name, text, last.number, str(last.day)), pages / f"{name}.1.gz")
+
+
+def put_listed(top: pathlib.Path, of: str) -> None:
+    """The files of a list."""
+    for source, folder in listed(of):
+        if not source.exists():
+            fail(f"packaging/{of} names {source.relative_to(TOP)}, which is not there")
+        for file in files_below(source):
+            put_file(file, top / folder / file.relative_to(source.parent))
+
+
+def stage_replicas(top: pathlib.Path, all_versions: list[Version], maintainer: str) -> None:
+    """Lays out the files of office-replicas below a folder."""
+    put_listed(top, REPLICAS)
+    put_manuals(top, all_versions[0], REPLICAS)
+    doc = top / "usr/share/doc/office-replicas"
+    put((HERE / "copyright").read_text(), doc / "copyright")
+    put_packed(debian(all_versions, maintainer, "office-replicas"), doc / "changelog.gz")
 
 
 def stage(top: pathlib.Path, program: pathlib.Path, all_versions: list[Version], maintainer: str) -> None:
     """Lays out all files below a folder. What is not there any more is left where it lies."""
     put_program(program, top / "usr/bin/office")
-    for source, folder in listed():
-        if not source.exists():
-            fail(f"packaging/files names {source.relative_to(TOP)}, which is not there")
-        for file in files_below(source):
-            put_file(file, top / folder / file.relative_to(source.parent))
-    put_manuals(top, all_versions[0])
+    put_listed(top, "files")
+    last = all_versions[0]
+    put_manuals(top, last, "files")
+    put_packed(manual.office(last.number, str(last.day), scripts_in("files")), top / "usr/share/man/man1/office.1.gz")
     put_completion(top / "usr/share/bash-completion/completions/office")
     put((HERE / "copyright").read_text(), top / DOC / "copyright")
     put_packed(debian(all_versions, maintainer), top / DOC / "changelog.gz")
 
 
-def hooks() -> dict[str, str]:
-    """What Debian runs before and after, with the names of the units."""
-    names = " ".join(f"'{it}'" for it in units())
-    return {it: re.sub("@UNITS@", names, (HERE / it).read_text()) for it in ("postinst", "prerm", "postrm")}
+def hooks(of: str = "files") -> dict[str, str]:
+    """What Debian runs before and after, with the names of the units. Those of a list lie beside it."""
+    names = " ".join(f"'{it}'" for it in units(of))
+    folder = (HERE / of).parent
+    return {it: re.sub("@UNITS@", names, (folder / it).read_text()) for it in ("postinst", "prerm", "postrm")}
 
 
 def set_times(top: pathlib.Path, seconds: int) -> None:

@@ -13,6 +13,7 @@ import socketserver
 import uuid
 from typing import Any
 
+from replica import metrics
 from replica.service import ANY, NEWEST, Answer, Service
 
 KINDS = {"/acts": "acts", "/run/resume": "resume"}
@@ -21,16 +22,17 @@ DRAINED = 262_144
 STATUSES = {"length": "411 Length Required", "digits": "400 Bad Request",
             "size": "413 Payload Too Large", "coding": "501 Not Implemented",
             "body": "400 Bad Request", "header": "400 Bad Request", "head": "400 Bad Request",
-            "host": "400 Bad Request", "key": "422 Unprocessable Content"}
+            "host": "400 Bad Request", "key": "422 Unprocessable Content",
+            "after": "412 Precondition Failed"}
 # the office's own names, where this module needs two for two statuses
 NAMES = {"digits": "length"}
 
 
-def message(status: str, told: object) -> bytes:
+def message(status: str, told: object, kind: str = "application/json") -> bytes:
     """An answer of this program, in the form of the office's."""
-    body = json.dumps(told, separators=(",", ":")).encode()
+    body = told.encode() if isinstance(told, str) else json.dumps(told, separators=(",", ":")).encode()
     again = "Retry-After: 1\r\n" if status.startswith("503") else ""
-    head = (f"HTTP/1.1 {status}\r\nContent-Type: application/json\r\n"
+    head = (f"HTTP/1.1 {status}\r\nContent-Type: {kind}\r\n"
             f"Content-Length: {len(body)}\r\n{again}Connection: close\r\n\r\n")
     return head.encode() + body
 
@@ -65,8 +67,7 @@ class Handler(http.server.BaseHTTPRequestHandler):
         more = b""
         if answer.position is not None:
             more += b"Office-Position: %d\r\n" % answer.position
-        if answer.age is not None:
-            more += b"Office-Age: %s\r\n" % answer.age.encode()
+        more += b"Office-Age: %s\r\n" % (answer.age or self.server.service.age()).encode()
         if key is not None:
             more += b"Idempotency-Key: %s\r\n" % key.encode()
         self.close_connection = True
@@ -134,6 +135,9 @@ class Handler(http.server.BaseHTTPRequestHandler):
     def do_GET(self) -> None:
         if self.target() == "/replica":
             return self.tell_state()
+        if self.target() == "/metrics":
+            return self.answer(Answer(None, message("200 OK", metrics.text(self.server.service),
+                                                    "text/plain; version=0.0.4")))
         self.pass_on("GET")
 
     def tell_state(self) -> None:

@@ -61,6 +61,12 @@ def absent(key: str) -> Part:
     return {"key": encoded(key), "target": "VERSION", "version": 0}
 
 
+def none_after(revision: int, key: str, end: str) -> Part:
+    """The condition that no key of these was written after a revision."""
+    return {"key": encoded(key), "range_end": encoded(end), "target": "MOD", "result": "LESS",
+            "mod_revision": str(revision + 1)}
+
+
 def rows_of(response: Part) -> list[Row]:
     """The keys and values that one operation has read."""
     found = response.get("response_range", {}).get("kvs", ())
@@ -148,6 +154,11 @@ class Etcd:
         answer = self.call("/v3/kv/txn", what, local)
         return (answer.get("succeeded", False),
                 [rows_of(response) for response in answer.get("responses", ())])
+
+    def read(self, operations: Sequence[Part]) -> tuple[int, list[list[Row]]]:
+        """The revision of what a majority has now, and what each operation has read."""
+        answer = self.call("/v3/kv/txn", {"compare": [], "success": operations, "failure": []}, False)
+        return int(answer["header"]["revision"]), [rows_of(it) for it in answer.get("responses", ())]
 
     def change(self, conditions: Sequence[Part], done: Sequence[Part]) -> int:
         """The revision of a transaction that was done, or 0 where a condition did not hold."""

@@ -11,19 +11,21 @@ from __future__ import annotations
 
 import contextlib
 import hashlib
-import pathlib
 import sqlite3
 import subprocess
 import threading
 import time
 from typing import Iterator
 
+from replica.appending import Appender
 from replica.blocked import Blocked
 from replica.comparison import Comparison
+from replica.doing import REFUSED, Doing
 from replica.errors import Fault, Halt, NotTaken, Unclear, say
-from replica.log import Entry, Log
+from replica.joining import groups
+from replica.log import NO_ACTS, Entry, Log
 from replica.memo import Memo
-from replica.office import Office, follows_from_log, has_content
+from replica.office import Office, has_content, work_file
 from replica.regular import Regular
 from replica.settings import Settings
 from replica.snapshots import Snapshots
@@ -43,8 +45,10 @@ RECOVERED = (Fault, NotTaken, Unclear, OSError, sqlite3.Error, subprocess.Called
 class Follower:
     """One member's place in the log. `run` is for one thread; all else for any."""
 
-    def __init__(self, settings: Settings, log: Log, office: Office, snapshots: Snapshots) -> None:
-        self.settings, self.log = settings, log
+    def __init__(self, settings: Settings, log: Log, office: Office, snapshots: Snapshots,
+                 appender: Appender) -> None:
+        self.settings, self.log, self.appender = settings, log, appender
+        appender.position, appender.tell = lambda: self.position, self.appended
         self.office, self.snapshots = office, snapshots
         self.memo: Memo | None = None
         self.moved = threading.Condition()
@@ -59,9 +63,10 @@ class Follower:
         self.changed, self.stopping = threading.Event(), threading.Event()
         self.wants_snapshot = False
         self.halting: str | None = None
-        self.blocked, self.regular = Blocked(), Regular(settings.snapshot_seconds, settings.name)
-        self.is_claimed = False
-        self.restores = 0
+        self.blocked, self.regular = Blocked(settings.folder), Regular(settings.snapshot_seconds, settings.name)
+        self.is_claimed = self.is_untold = False
+        self.restores = self.done = 0
+        self.doing = Doing(office, log.program, lambda it: None if self.memo is None else self.memo.answer_at(it))
         self.pause = 0.2
         self.looked = 0.0
 
@@ -97,6 +102,13 @@ class Follower:
         self.set_answering(False)
         self.changed.set()
 
+    def appended(self, first: int, before: int) -> None:
+        """New entries of this member are in the log from a position on. Of one that was done here before, etcd has an
+        older log than this member: then it halts, and nobody is answered of it."""
+        if first <= before:
+            self.ask_to_halt(f"entry {first} is new in etcd, and another was done here: an older log was put back")
+        self.changed.set()
+
     def close(self) -> None:
         """Nobody is answered any more, and no office runs."""
         with self.office.lock:
@@ -119,13 +131,20 @@ class Follower:
             self.snapshots.restore()
             memo = Memo(self.snapshots.work / "memo.db")
         self.memo, self.position, self.reported = memo, memo.position, None
-        try:
-            self.office.start()
-        except Fault:
-            memo.settle(False)
-            raise
+        self.start_office(memo)
         say(f"opened at {self.position} {'as it was' if was_settled else 'from a snapshot'}")
         return memo
+
+    def start_office(self, memo: Memo) -> None:
+        """Opens FILE. What the opening writes is not synced, so FILE is not settled before."""
+        memo.settle(False)
+        self.office.start()
+
+    def settle(self, memo: Memo) -> None:
+        """Afterwards the disk has FILE as it is, and then that it is settled."""
+        if not memo.settled:
+            self.office.sync()
+            memo.settle(True)
 
     def settled_memo(self) -> Memo | None:
         """The memo of `work` where FILE is surely at its position, and no snapshot is beyond it."""
@@ -151,15 +170,15 @@ class Follower:
         while not self.stopping.is_set():
             self.look_for_halt()
             with self.office.lock:
-                self.office.restart_if_ended()
+                if self.office.has_ended():
+                    self.start_office(memo)
             if goal is None:
                 goal = self.end_of_log(memo)
-            entries = self.blocked.before(self.next_entries())
-            for entry in entries:
-                self.do(memo, entry)
-                comparison.note(entry.position, memo.chain)
-                last, size = time.monotonic(), size + len(entry.body)
-                is_due = is_due or size > SNAPSHOT_BYTES or self.is_snapshot_at(entry.position)
+            entries = self.entries_to_do()
+            for group in groups(entries):
+                self.do(memo, group, comparison)
+                last, size = time.monotonic(), size + sum(len(it.body) for it in group)
+                is_due = is_due or size > SNAPSHOT_BYTES or any(self.is_snapshot_at(it.position) for it in group)
                 if is_due and self.is_answering or self.stopping.is_set():
                     break
             if self.is_snapshot_now(is_due):
@@ -169,10 +188,10 @@ class Follower:
             self.decide(goal, comparison.is_split)
             if not entries:
                 if time.monotonic() - last > IDLE_SECONDS:
-                    memo.settle(True)
+                    self.settle(memo)
                 self.changed.wait(LOOK_SECONDS)
                 self.changed.clear()
-        memo.settle(True)
+        self.settle(memo)
 
     def look_for_halt(self) -> None:
         """Halt where a client's thread or a snapshot's has found a reason."""
@@ -193,11 +212,35 @@ class Follower:
             raise Halt("the log in etcd is not the one that is followed here")
         return end.tail
 
+    def entries_to_do(self) -> list[Entry]:
+        """The next entries, up to one that may not be done now. One that was refused is of the kind `refused`."""
+        held = self.blocked.held()
+        if held == self.position + 1 and self.may_do(held):
+            self.blocked.release()
+            held = None
+        return [it._replace(kind=REFUSED) if it.position in self.log.refused else it for it in self.next_entries()
+                if held is None or it.position < held]
+
+    def may_do(self, position: int) -> bool:
+        """Whether an entry that failed may be tried, or is refused. A promise is taken back before."""
+        try:
+            if position in self.log.refused:
+                return True
+            if self.blocked.is_waiting():
+                return self.blocked.is_time_to_look() and self.log.look_for_refusal(position)
+            self.log.withdraw(position)
+            return True
+        except (NotTaken, Unclear):
+            return False
+
     def next_entries(self) -> list[Entry]:
         """The entries after the position; none where etcd does not answer.
 
         Fault where they are not there any more.
         """
+        own = self.appender.after(self.position)
+        if own:
+            return own
         try:
             entries, tail = self.log.after(self.position)
         except (NotTaken, Unclear):
@@ -207,48 +250,45 @@ class Follower:
                         f"another member into {self.snapshots.folder}")
         return entries
 
-    def do(self, memo: Memo, entry: Entry) -> None:
-        """Gives an entry to the office, and remembers its answer.
+    def do(self, memo: Memo, group: list[Entry], comparison: Comparison) -> None:
+        """Gives entries to the office, as one list where they can be joined, and remembers their answers.
 
-        Where the answer is not the one that each office gives, nobody is answered any more before
+        Where an answer is not the one that each office gives, nobody is answered any more before
         anybody else can ask the office: FILE may have half of the entry.
         """
-        if entry.program != self.log.program:
-            raise Halt(f"entry {entry.position} is for another program: {entry.program}")
-        if entry.kind not in ("acts", "resume"):
-            raise Halt(f"entry {entry.position} is of an unknown kind: {entry.kind}")
+        self.doing.look_at(group)
         memo.settle(False)
         with self.office.lock:
             self.set_before(False)
             try:
-                answer = self.ask(entry)
-                if not follows_from_log(answer):
-                    raise Fault(f"entry {entry.position}: {answer[-100:]!r}")
-                chain = hashlib.sha256(memo.chain.encode() + answer).hexdigest()
-                memo.advance(entry.position, entry.key, answer, chain)
+                for part, answers in self.doing.answers(group):
+                    self.remember(memo, part, answers, comparison)
             except BaseException as error:
                 self.set_answering(False)
-                self.blocked.failed(entry.position, str(error))
+                if self.doing.was_alone(group):
+                    self.blocked.failed(memo.position + 1, str(error))
                 raise
-            with self.moved:
-                self.position = entry.position
-                self.highest = max(self.highest, self.position)
-                self.moved.notify_all()
-        self.blocked.done(entry.position)
-        self.regular.note(entry)
+            self.move()
 
-    def ask(self, entry: Entry) -> bytes:
-        """What the office answers to an entry. An office that ended before is started first."""
-        if entry.kind == "acts":
-            words: tuple[str, str, bytes | None] = ("POST", "/acts", entry.body)
-        else:
-            words = ("POST", "/run/resume", None)
-        try:
-            return self.office.ask(*words)
-        except ConnectionRefusedError:
-            # nothing was sent, and FILE has all entries to the position
-            self.office.start()
-            return self.office.ask(*words)
+    def remember(self, memo: Memo, group: list[Entry], answers: list[bytes], comparison: Comparison) -> None:
+        """Remembers the answers to entries that were done."""
+        chain = memo.chain
+        for entry, answer in zip(group, answers):
+            chain = hashlib.sha256(chain.encode() + answer).hexdigest()
+            comparison.note(entry.position, chain)
+        memo.advance([(it.position, it.key, answer) for it, answer in zip(group, answers)], chain)
+        self.done += len(group)
+        for entry in group:
+            self.blocked.done(entry.position)
+            self.regular.note(entry)
+
+    def move(self) -> None:
+        """Clients may have the answers up to the memo's position now."""
+        assert self.memo is not None
+        with self.moved:
+            self.position = self.memo.position
+            self.highest = max(self.highest, self.position)
+            self.moved.notify_all()
 
     # ---- snapshots and reports
 
@@ -264,8 +304,8 @@ class Follower:
             if not self.regular.is_due():
                 return False
             if self.position <= max(self.snapshots.positions(), default=0):
-                if self.regular.may_ask():
-                    self.log.go_on(self.position)
+                if self.regular.may_ask() and self.appender.is_idle():
+                    self.appender.append(f"snapshot-{self.settings.name}-{self.position}", "acts", NO_ACTS)
                 return False
         self.wants_snapshot = False
         self.regular.taken()
@@ -284,6 +324,11 @@ class Follower:
                 self.log.claim()
                 self.is_claimed = True
             comparison.look()
+            promised = self.blocked.promise()
+            if promised is not None or self.is_untold:
+                self.is_untold = True
+                self.log.report_blocked(self.blocked.promised or 0)
+                self.is_untold = False
             oldest = self.snapshots.positions()[-1]
             if oldest != self.reported:
                 self.forget(memo, self.log.report_snapshot(oldest) - self.settings.keys_kept)
@@ -311,7 +356,7 @@ class Follower:
         """A member answers where it has done all that was in the log as it opened FILE, and all
         that it ever answered, and its answers are not in question."""
         is_there = goal is not None and self.position >= max(goal, self.highest)
-        is_before = self.blocked.is_next(self.position) and self.position >= self.highest
+        is_before = self.blocked.held() == self.position + 1 and self.position >= self.highest
         if is_split:
             self.why = "the members' answers differ"
         elif is_before:
@@ -351,8 +396,3 @@ class Follower:
             return None if memo is None else memo.answer(position, key)
         except sqlite3.Error:
             return None
-
-
-def work_file(folder: pathlib.Path) -> pathlib.Path:
-    """FILE of the member in a folder."""
-    return folder / "work" / "office.db"

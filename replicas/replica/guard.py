@@ -1,7 +1,8 @@
 """The guard: an office that hangs is found, and killed, so that it is started again.
 
-A reading that takes longer than the limit hangs. An entry may take as long as it needs: it hangs where the office has
-used no processor for as long as the limit while somebody waits. And an office that nobody asks is asked now and then.
+A reading that takes longer than the limit hangs. An entry may take as long as it needs. An office hangs that has used no
+processor for a while though somebody waits. One that nobody asks is asked now and then, so that it is found within 30
+seconds in each case.
 To kill an office is safe at any moment: what it had answered is in FILE, and else the member goes back to a snapshot.
 """
 from __future__ import annotations
@@ -15,8 +16,10 @@ from replica.office import Office
 from replica.service import Service
 
 LOOK_SECONDS = 1
-ASK_SECONDS = 10
+ASK_SECONDS = 5
 """between two questions of the guard's own"""
+STILL_SECONDS = 20
+"""without the use of a processor while somebody waits"""
 
 
 def ticks_of(process: subprocess.Popen[bytes]) -> int | None:
@@ -33,7 +36,7 @@ class Guard:
     """What was last seen of the office; for one thread."""
 
     def __init__(self, service: Service, limit: int) -> None:
-        self.service, self.limit = service, limit
+        self.service, self.limit = service, min(limit, STILL_SECONDS)
         self.office: Office = service.follower.office
         self.seen: tuple[float, int, int] | None = None
         self.still = self.asked = time.monotonic()
@@ -45,13 +48,13 @@ class Guard:
             try:
                 self.look()
                 if time.monotonic() - self.asked > min(ASK_SECONDS, self.limit):
-                    self.service.ask_if_free()
+                    self.service.ask_if_free(self.limit)
                     self.asked = time.monotonic()
             except Exception as error:  # without this thread nobody would find an office that hangs
                 say(f"the office is not looked at: {error!r}")
 
     def look(self) -> None:
-        """Kills an office for which somebody waits, and which has done nothing for as long as the limit."""
+        """Kills an office for which somebody waits, and which has done nothing for a while."""
         owes, process = self.office.owes, self.office.process
         ticks = None if owes is None or process is None else ticks_of(process)
         if owes is None or process is None or ticks is None:

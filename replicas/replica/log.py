@@ -9,6 +9,8 @@ Below /office/LOG/ etcd has
     keys/KEY            the position of the entry with this key, and what it asked for
     members/NAME        the older snapshot of each member
     machines/NAME       the machine and folder that have this name
+    blocked/NAME        the entry that a member cannot do, and has promised not to do
+    refused/POSITION    the entry by which this one was refused: nobody does it
     chain/POSITION/NAME a hash over all answers of a member up to there
 
 What is dropped is compacted too, so that etcd gives no earlier revision of it either.
@@ -20,11 +22,10 @@ import json
 import pathlib
 import socket
 import threading
-import time
 from typing import NamedTuple, Sequence
 
 from replica.errors import Halt, NotTaken, Unclear, say
-from replica.etcd import CALL_SECONDS, Etcd, Part, Row, absent, drop, get, has, put
+from replica.etcd import Etcd, Part, Row, absent, drop, get, has, put
 from replica.settings import Settings
 
 READ_AT_ONCE = 32
@@ -38,10 +39,18 @@ class Entry(NamedTuple):
     position: int
     key: str
     kind: str
-    """`acts` or `resume`"""
+    """`acts` or `resume`; `refuse` has the position of an entry that nobody does, as its body"""
     program: str
     """the digest of the office's program at the member that appended it"""
     body: bytes
+
+
+class Request(NamedTuple):
+    """What goes into the log: the key, the entry's value, and a digest of what is asked for."""
+
+    key: str
+    value: bytes
+    digest: str
 
 
 class Appended(NamedTuple):
@@ -49,7 +58,6 @@ class Appended(NamedTuple):
 
     position: int | None
     error: str | None = None
-    is_new: bool = False
 
 
 class End(NamedTuple):
@@ -82,9 +90,12 @@ class Log:
 
     def __init__(self, settings: Settings, etcd: Etcd, program: str) -> None:
         self.etcd, self.member, self.program = etcd, settings.name, program
+        self.name = settings.log
         self.top = f"/office/{settings.log}/"
         self.quota = settings.etcd_quota
-        self.appending, self.last, self.is_full = threading.Lock(), 0, False
+        self.last, self.is_full = 0, False
+        self.refused: set[int] = set()
+        """positions of entries that are known to be refused"""
         self.machine, self.dropped = machine_of(settings.folder), 0
 
     def entry_key(self, position: int) -> str:
@@ -93,62 +104,37 @@ class Log:
     def chain_key(self, position: int) -> str:
         return f"{self.top}chain/{position:016d}"
 
+    def refused_key(self, position: int) -> str:
+        return f"{self.top}refused/{position:016d}"
+
     # ---- what a request needs
 
-    def append(self, key: str, kind: str, body: bytes) -> Appended:
-        """Puts a request at the end, once for its key, however often it is called.
+    def try_append(self, requests: Sequence[Request]) -> tuple[int | None, dict[str, tuple[int, str]]]:
+        """One transaction: the requests have the next positions, and this gives the first of them.
 
-        An error of the name `unknown` says that it may be in the log, each other that this call
-        put nothing there. One thread of a member appends at a time.
+        Otherwise none of them is there now by this call, and it gives the positions and digests of those whose keys
+        are in the log. One thread of a member appends at a time, and no key is there twice.
         """
-        head = {"key": key, "kind": kind, "member": self.member, "program": self.program}
-        value = json.dumps(head).encode() + b"\n" + body
-        digest = hashlib.sha256(kind.encode() + b"\n" + body).hexdigest()
-        is_clear, until = True, time.monotonic() + 2 * CALL_SECONDS
-        while True:
-            if self.is_full and is_clear:
-                return Appended(None, "full")
-            try:
-                done, found = self.try_append(key, value, digest)
-            except (NotTaken, Unclear) as error:
-                is_clear = is_clear and isinstance(error, NotTaken)
-                if is_clear or time.monotonic() > until:
-                    say(f"{'not' if is_clear else 'perhaps'} appended: {error}")
-                    name = getattr(error, "name", "quorum") if is_clear else "unknown"
-                    return Appended(None, name)
-                time.sleep(0.1)
-                continue
-            if done:
-                return Appended(self.last, is_new=True)
-            if found:
-                position, first_digest = found.split()
-                if first_digest != digest:
-                    return Appended(None, "key")
-                return Appended(int(position))
-
-    def try_append(self, key: str, value: bytes, digest: str) -> tuple[bool, str]:
-        """One transaction: whether the request has the next position, else what its key has."""
-        position, tail, mine = self.last + 1, self.top + "tail", self.top + "keys/" + key
-        done, rows = self.etcd.transact(
-            [has(tail, str(position - 1)), absent(mine)],
-            [put(tail, str(position)), put(self.entry_key(position), value),
-             put(mine, f"{position} {digest}")],
-            [get(tail), get(mine)])
+        first, tail = self.last + 1, self.top + "tail"
+        keys = [self.top + "keys/" + it.key for it in requests]
+        last = self.last + len(requests)
+        puts = [put(tail, str(last))]
+        for position, (it, key) in enumerate(zip(requests, keys), first):
+            puts += [put(self.entry_key(position), it.value), put(key, f"{position} {it.digest}")]
+        done, rows = self.etcd.transact([has(tail, str(self.last)), *map(absent, keys)], puts,
+                                        [get(tail), *map(get, keys)])
         if done:
-            self.last = position
-            return True, ""
+            self.last = last
+            return first, {}
         if not rows[0]:
             raise NotTaken(f"there is no log {self.top} in etcd")
         self.last = int(rows[0][0][1])
-        return False, rows[1][0][1].decode() if rows[1] else ""
-
-    def go_on(self, position: int) -> None:
-        """Puts an entry of no acts after a position, once; nothing where somebody appends just now."""
-        if self.appending.acquire(blocking=False):
-            try:
-                self.append(f"snapshot-{self.member}-{position}", "acts", NO_ACTS)
-            finally:
-                self.appending.release()
+        found = {}
+        for it, row in zip(requests, rows[1:]):
+            if row:
+                position_text, digest = row[0][1].decode().split()
+                found[it.key] = int(position_text), digest
+        return None, found
 
     def tail(self) -> int:
         """The last position at this moment, through the quorum."""
@@ -176,10 +162,33 @@ class Log:
 
     def after(self, position: int) -> tuple[list[Entry], int]:
         """The next entries that this machine's etcd has, and where the log ends there."""
-        _, (rows, tail) = self.etcd.transact(
+        _, (rows, tail, refused) = self.etcd.transact(
             [], [get(self.entry_key(position + 1), self.top + "log0", True, READ_AT_ONCE),
-                 get(self.top + "tail", local=True)], local=True)
+                 get(self.top + "tail", local=True),
+                 get(self.refused_key(position + 1), self.top + "refused0", True)], local=True)
+        self.refused.update(int(key[-16:]) for key, _ in refused)
         return [entry_at(*row) for row in rows], int(tail[0][1]) if tail else 0
+
+    # ---- entries that no member can do
+
+    def report_blocked(self, position: int) -> None:
+        """Reports that this member cannot do an entry, and does not do it before it has taken that back."""
+        self.reported([put(self.top + "blocked/" + self.member, str(position))])
+
+    def withdraw(self, position: int) -> bool:
+        """Takes that report back, so that the entry may be tried. False where it was refused meanwhile."""
+        is_free, _ = self.etcd.transact([absent(self.refused_key(position))],
+                                        [drop(self.top + "blocked/" + self.member)])
+        if not is_free:
+            self.refused.add(position)
+        return is_free
+
+    def look_for_refusal(self, position: int) -> bool:
+        """Whether this machine's etcd knows that an entry was refused."""
+        _, rows = self.etcd.transact([], [get(self.refused_key(position), local=True)], local=True)
+        if rows[0]:
+            self.refused.add(position)
+        return bool(rows[0])
 
     def watch(self, changed: threading.Event) -> None:
         """Sets the event whenever there may be a new entry. Never returns."""
@@ -244,7 +253,8 @@ class Log:
                 [has(top + "first", str(first))],
                 [put(top + "first", str(least + 1)),
                  drop(self.entry_key(0), self.entry_key(least + 1)),
-                 drop(top + "chain/", self.chain_key(least))])
+                 drop(top + "chain/", self.chain_key(least)),
+                 drop(top + "refused/", self.refused_key(least + 1))])
         if self.dropped:
             self.etcd.compact(self.dropped)
             self.dropped = 0

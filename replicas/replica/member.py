@@ -15,14 +15,15 @@ import sys
 import threading
 from typing import Callable
 
+from replica.appending import Appender
 from replica.clients import Server
 from replica.errors import Halt, say
 from replica.etcd import Etcd
-from replica.follower import Follower, work_file
+from replica.follower import Follower
 from replica.freshness import Freshness
 from replica.guard import Guard
 from replica.log import Log
-from replica.office import Office
+from replica.office import Office, work_file
 from replica.program import Program
 from replica.service import Service
 from replica.settings import Settings, read_settings
@@ -36,13 +37,15 @@ def made(settings: Settings) -> tuple[Log, Follower]:
     program = Program(settings.office, settings.disk)
     log = Log(settings, Etcd(settings.etcd, settings.tls()), program.digest)
     office = Office(program, work_file(settings.folder), settings.office_port)
-    return log, Follower(settings, log, office, Snapshots(settings.folder, program))
+    return log, Follower(settings, log, office, Snapshots(settings.folder, program), Appender(log))
 
 
 def locked(settings: Settings) -> object:
-    """The lock of the folder, held as long as this value lives."""
-    file = open(settings.folder / "lock", "w", encoding="utf-8")
+    """The lock of the folder, with this process's number in it, held as long as this value lives."""
+    file = open(settings.folder / "lock", "a", encoding="utf-8")
     fcntl.flock(file, fcntl.LOCK_EX | fcntl.LOCK_NB)
+    file.truncate(0)
+    print(os.getpid(), file=file, flush=True)
     return file
 
 
@@ -65,7 +68,7 @@ def start(settings: Settings) -> int:
         say(f"the folder {settings.folder} or the port {settings.listen} is taken: {error}")
         return 3
     guard = Guard(service, settings.reading_limit)
-    threads: list[Callable[[], None]] = [server.serve_forever, freshness.run, guard.run,
+    threads: list[Callable[[], None]] = [server.serve_forever, freshness.run, guard.run, follower.appender.run,
                                          lambda: log.watch(follower.changed)]
     for thread in threads:
         threading.Thread(target=thread, daemon=True).start()

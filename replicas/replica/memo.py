@@ -1,7 +1,7 @@
 """What a member remembers beside FILE: which log, at which position FILE is, and the last answers.
 
-One SQLite file, work/memo.db. `settled` says whether FILE is surely at the position: it is reset on
-the disk before the office gets an entry, and set once nothing is under way.
+One SQLite file, work/memo.db. `settled` says whether FILE is surely at the position: it is reset on the disk before the
+office opens FILE or gets an entry, and set once nothing is under way and FILE is synced.
 """
 from __future__ import annotations
 
@@ -9,7 +9,7 @@ import contextlib
 import pathlib
 import sqlite3
 import threading
-from typing import Iterator
+from typing import Iterator, Sequence
 
 SCHEMA = """
 CREATE TABLE meta (epoch TEXT, position INTEGER, chain TEXT, settled INTEGER);
@@ -57,12 +57,14 @@ class Memo:
                 self.rows.execute("PRAGMA synchronous=NORMAL")
                 self.settled = is_settled
 
-    def advance(self, position: int, key: str, answer: bytes, chain: str) -> None:
-        """The entry at this position has this answer. All of it is there afterwards, or nothing."""
+    def advance(self, answers: Sequence[tuple[int, str, bytes]], chain: str) -> None:
+        """The entries at these positions, with these keys, have these answers. All of it is there afterwards, or
+        nothing. `chain` is the hash after the last one."""
+        position = answers[-1][0]
         with self.lock:
             try:
                 self.rows.execute("BEGIN")
-                self.rows.execute("INSERT INTO answers VALUES (?, ?, ?)", (position, key, answer))
+                self.rows.executemany("INSERT INTO answers VALUES (?, ?, ?)", answers)
                 self.rows.execute("UPDATE meta SET position=?, chain=?", (position, chain))
                 self.rows.execute("COMMIT")
             except sqlite3.Error:
@@ -76,6 +78,12 @@ class Memo:
         with self.lock:
             row = self.rows.execute("SELECT answer FROM answers WHERE position=? AND key=?",
                                     (position, key)).fetchone()
+        return None if row is None else bytes(row[0])
+
+    def answer_at(self, position: int) -> bytes | None:
+        """What the entry at a position was answered, if that is remembered."""
+        with self.lock:
+            row = self.rows.execute("SELECT answer FROM answers WHERE position=?", (position,)).fetchone()
         return None if row is None else bytes(row[0])
 
     def oldest(self, until: int, limit: int) -> list[tuple[int, str]]:

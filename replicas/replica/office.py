@@ -4,6 +4,7 @@
 """
 from __future__ import annotations
 
+import os
 import pathlib
 import re
 import socket
@@ -45,6 +46,20 @@ def has_content(file: pathlib.Path) -> bool:
     return file.is_file() and file.stat().st_size > 0
 
 
+def work_file(folder: pathlib.Path) -> pathlib.Path:
+    """FILE of the member in a folder."""
+    return folder / "work" / "office.db"
+
+
+def synced(file: pathlib.Path) -> None:
+    """Afterwards the disk has the file, or the folder, as it is now."""
+    descriptor = os.open(file, os.O_RDONLY)
+    try:
+        os.fsync(descriptor)
+    finally:
+        os.close(descriptor)
+
+
 def parts_of(link: socket.socket, until: float) -> Iterator[bytes]:
     """What comes on a connection to its end. TimeoutError: it has not ended until then."""
     while True:
@@ -68,6 +83,7 @@ class Office:
         self.owes: float | None = None
         """since when an answer is awaited, or the line that says that it serves"""
         self.is_starting = False
+        self.starts = 0
 
     def start(self) -> None:
         """Opens FILE, by a new process that ends with this thread. Fault where it does not, or there is no FILE."""
@@ -81,6 +97,7 @@ class Office:
             assert self.process.stdout is not None
             if not self.process.stdout.readline().startswith(b"listening"):
                 raise Fault(f"the office did not start: status {self.process.wait()}")
+            self.starts += 1
         finally:
             self.owes, self.is_starting = None, False
 
@@ -99,10 +116,9 @@ class Office:
         if process is not None:
             process.kill()
 
-    def restart_if_ended(self) -> None:
-        """An office that ended while nothing was asked of it has all that it answered."""
-        if self.process is None or self.process.poll() is not None:
-            self.start()
+    def has_ended(self) -> bool:
+        """Whether no process serves. One that ended while nothing was asked of it has left all that it answered."""
+        return self.process is None or self.process.poll() is not None
 
     def ask(self, method: str, path: str, body: bytes | None = None, seconds: float = float("inf")) -> bytes:
         """All bytes that the office answers. TimeoutError: not within these seconds."""
@@ -116,6 +132,15 @@ class Office:
                 return b"".join(parts_of(link, until))
         finally:
             self.owes = None
+
+    def sync(self) -> None:
+        """Afterwards the disk has FILE and its log. The office itself syncs nothing (opened.py). Fault without FILE."""
+        if not has_content(self.file):
+            raise Fault(f"{self.file} is gone, or empty")
+        log = pathlib.Path(f"{self.file}-wal")
+        for it in (log, self.file, self.file.parent):
+            if it is not log or log.exists():
+                synced(it)
 
     def trouble(self, limit: float) -> str:
         """Why it may not answer a reading now, or nothing: somebody has waited longer than the limit."""

@@ -8,7 +8,7 @@ from typing import NamedTuple
 from replica.errors import NotTaken, Unclear, say
 from replica.follower import Follower
 from replica.freshness import Freshness, whole
-from replica.log import Appended, Log
+from replica.log import Log
 from replica.office import status_of
 
 WAIT_SECONDS = 30
@@ -19,7 +19,7 @@ NEWEST, ANY = "newest", "any"
 
 class Answer(NamedTuple):
     """The bytes of the office, or the name of an error; the position that they belong to; and the
-    age of a reading, in seconds or `unknown`."""
+    age of a reading, in seconds or `unknown`. Any other answer has the age as it is written."""
 
     position: int | None
     content: bytes | str
@@ -42,14 +42,7 @@ class Service:
         """
         if not self.follower.is_answering:
             return Answer(None, "recovering")
-        if not self.log.appending.acquire(timeout=WAIT_SECONDS):
-            return Answer(None, "busy")
-        try:
-            before = self.follower.position
-            appended = self.log.append(key, kind, body)
-            self.look_at(appended, before)
-        finally:
-            self.log.appending.release()
+        appended = self.follower.appender.append(key, kind, body)
         if appended.position is None:
             return Answer(None, appended.error or "unknown")
         if not self.follower.reaches(appended.position, WAIT_SECONDS):
@@ -57,20 +50,12 @@ class Service:
         answer = self.follower.answer(appended.position, key)
         return Answer(appended.position, "unknown" if answer is None else answer)
 
-    def look_at(self, appended: Appended, before: int) -> None:
-        """A new entry at a position that was done before: etcd has an older log than this member.
-
-        Then the member halts, and nobody is answered of it.
-        """
-        if appended.is_new and appended.position is not None and appended.position <= before:
-            self.follower.ask_to_halt(f"entry {appended.position} is new in etcd, and another was "
-                                      "done here: an older log was put back")
-
     def read(self, method: str, path: str, wanted: str | None, after: int) -> Answer:
         """The answer to a request that changes nothing, from the own office.
 
         It is at least at the position `after`; with NEWEST at least where the log ended as the
         request came. `behind`: it would not be there in time, or would be older than the limit.
+        `after`: the log ends before that position, so it is another log than the client has seen.
         """
         if wanted == NEWEST:
             try:
@@ -79,16 +64,30 @@ class Service:
                 return Answer(None, "quorum")
         if not self.follower.is_reading:
             return Answer(None, "recovering")
+        if after > self.follower.position and self.ends_before(after):
+            return Answer(None, "after")
         if after > 0 and not self.follower.reaches(after, WAIT_SECONDS, reading=True):
             return Answer(None, "behind" if self.follower.is_reading else "recovering")
         if not self.follower.office.lock.acquire(timeout=self.limit):
             return Answer(None, "busy")
         try:
-            return self.asked(method, path, wanted != ANY)
+            return self.asked(method, path, wanted != ANY, self.limit)
         finally:
             self.follower.office.lock.release()
 
-    def asked(self, method: str, path: str, is_limited: bool) -> Answer:
+    def ends_before(self, position: int) -> bool:
+        """Whether a majority says that the log ends before a position. What any member answered is in the log."""
+        try:
+            return self.freshness.confirm() < position
+        except (NotTaken, Unclear):
+            return False
+
+    def age(self) -> str:
+        """How long ago this machine surely had all that was answered, in whole seconds, or `unknown`."""
+        age = whole(self.freshness.age(self.follower.position))
+        return "unknown" if age is None else str(age)
+
+    def asked(self, method: str, path: str, is_limited: bool, seconds: float) -> Answer:
         """What the office answers now, to one who has its lock."""
         position, office = self.follower.position, self.follower.office
         if not self.follower.is_reading:
@@ -96,9 +95,9 @@ class Service:
         if is_limited and self.freshness.is_behind(position):
             return Answer(None, "behind")
         try:
-            content = office.ask(method, path, seconds=self.limit)
+            content = office.ask(method, path, seconds=seconds)
         except TimeoutError:
-            say(f"the office gave no answer to {method} {path} in {self.limit:.0f} seconds: it is started again")
+            say(f"the office gave no answer to {method} {path} in {seconds:.0f} seconds: it is started again")
             office.kill()
             self.follower.changed.set()
             return Answer(None, "recovering")
@@ -106,15 +105,14 @@ class Service:
             return Answer(None, "recovering")
         if status_of(content, method == "HEAD") is None:
             return Answer(None, "recovering")
-        age = whole(self.freshness.age(position))
-        return Answer(position, content, "unknown" if age is None else str(age))
+        return Answer(position, content, self.age())
 
-    def ask_if_free(self) -> None:
+    def ask_if_free(self, seconds: float) -> None:
         """Asks the office something, unless somebody else does just now: so a hanging one is found."""
         follower = self.follower
         if follower.is_reading and follower.office.lock.acquire(blocking=False):
             try:
-                self.asked("GET", "/nothing", False)
+                self.asked("GET", "/nothing", False, seconds)
             finally:
                 follower.office.lock.release()
 

@@ -47,11 +47,26 @@ def sum_of(file: pathlib.Path) -> str:
         return hashlib.file_digest(opened, "sha256").hexdigest()
 
 
+def sums_in(folder: pathlib.Path) -> dict[str, str]:
+    """The sum of each file of a snapshot, as it was written. OSError, ValueError where there are none."""
+    lines = (folder / "sums").read_text(encoding="utf-8").splitlines()
+    return dict((name, digest) for digest, name in (line.split("  ") for line in lines))
+
+
+def sum_in(folder: pathlib.Path, name: str) -> str:
+    return sums_in(folder).get(name, "")
+
+
+def positions_in(folder: pathlib.Path) -> list[int]:
+    """Where there are snapshots, the newest first."""
+    names = os.listdir(folder) if folder.exists() else []
+    return sorted((int(name) for name in names if name.isdigit()), reverse=True)
+
+
 def has_sums(folder: pathlib.Path) -> bool:
     """Whether each file of a snapshot is the one that was written."""
     try:
-        lines = (folder / "sums").read_text(encoding="utf-8").splitlines()
-        wanted = dict((name, digest) for digest, name in (line.split("  ") for line in lines))
+        wanted = sums_in(folder)
         return {"office.db", "memo.db"} <= set(wanted) and all(
             sum_of(folder / name) == digest for name, digest in wanted.items())
     except (OSError, ValueError):
@@ -74,8 +89,7 @@ class Snapshots:
 
     def positions(self) -> list[int]:
         """Where there are snapshots, the newest first."""
-        names = os.listdir(self.folder) if self.folder.exists() else []
-        return sorted((int(name) for name in names if name.isdigit()), reverse=True)
+        return positions_in(self.folder)
 
     def restore(self) -> None:
         """Afterwards `work` has the newest snapshot that is as it was written, and nothing else.

@@ -9,8 +9,6 @@ from office_serve.stopping import Stop
 BLOCK = 65536
 ANSWER_SECONDS = 60
 """a client has as long for the whole answer as the program gives it"""
-LINGER_SECONDS = 0.1
-"""what a client still sends after its answer is read for so long: unread bytes would reset the connection"""
 
 
 class Way:
@@ -112,15 +110,14 @@ class Passing:
         self.request.end()
 
     def finish(self) -> None:
-        """Ends both connections. A client that has a part of an answer is reset, so that it does not take it as
-        whole."""
+        """Ends the program's connection. A client that has a part of an answer is reset when it is closed, so that it
+        does not take it as whole."""
         self.link.close()
         is_whole = self.answer.has_ended and not self.answer.waiting
         if self.is_answered() and not is_whole:
             self.client.setsockopt(socket.SOL_SOCKET, socket.SO_LINGER, struct.pack("ii", 1, 0))
         elif not self.is_answered() and self.request.beginning:
             reply(self.client, "502 Bad Gateway", "unknown")
-        linger([self.client])
 
 
 def reply(client: socket.socket, status: str, word: str) -> None:
@@ -131,27 +128,3 @@ def reply(client: socket.socket, status: str, word: str) -> None:
         client.send(f"{head}Connection: close\r\n\r\n{body}".encode())
     except OSError:
         pass
-
-
-def linger(clients: list[socket.socket]) -> None:
-    """Closes connections that have their answer, after what their clients still send."""
-    left = []
-    for it in clients:
-        it.setblocking(False)
-        try:
-            it.shutdown(socket.SHUT_WR)
-            left.append(it)
-        except OSError:
-            it.close()
-    ends = time.monotonic() + LINGER_SECONDS
-    while left and (seconds := ends - time.monotonic()) > 0:
-        for it in select.select(left, [], [], seconds)[0]:
-            try:
-                block = it.recv(BLOCK)
-            except OSError:
-                block = b""
-            if not block:
-                left.remove(it)
-                it.close()
-    for it in left:
-        it.close()

@@ -7,7 +7,8 @@ import time
 
 from office_serve import files, listening
 from office_serve.errors import Refused
-from office_serve.passing import Passing, linger, reply
+from office_serve.lingering import Lingering
+from office_serve.passing import Passing, reply
 from office_serve.program import Program
 from office_serve.stopping import Stop
 
@@ -23,6 +24,7 @@ class Service:
         self.port = port
         self.stop = Stop(stop_seconds)
         self.listener: socket.socket | None = None
+        self.lingering = Lingering()
 
     def run(self) -> None:
         """Serves until somebody asks it to stop, and then closes FILE."""
@@ -37,6 +39,7 @@ class Service:
                 self.serve()
         finally:
             self.program.kill()
+            self.lingering.end()
         listening.tell("STOPPING=1")
         self.listener.close()
         files.close_if_open(self.program.path, self.program.file)
@@ -63,10 +66,12 @@ class Service:
         assert self.listener is not None
         ended = self.program.pidfd()
         try:
-            ready = select.select([self.listener, self.stop, ended], [], [])[0]
+            ready = select.select([self.listener, self.stop, ended, *self.lingering.clients], [], [],
+                                  self.lingering.seconds_left())[0]
         finally:
             os.close(ended)
         self.stop.clear()
+        self.lingering.read(ready)
         if self.stop.is_asked() or ended in ready:
             return None
         try:
@@ -85,7 +90,7 @@ class Service:
                 is_started = self.start()
             except Refused:
                 reply(client, "503 Service Unavailable", "closed")
-                linger([client])
+                self.lingering.add(client)
                 raise
             if not is_started:
                 client.close()
@@ -95,6 +100,7 @@ class Service:
             print("office-serve: the request under way took longer than may be; the program is ended", file=sys.stderr)
             self.program.kill()
         passing.finish()
+        self.lingering.add(client)
         self.settle(passing.status())
 
     def settle(self, status: bytes) -> None:
@@ -114,11 +120,10 @@ class Service:
     def refuse_all(self) -> None:
         """Answers those who wait that the office is closed. Nothing of them came to the program."""
         assert self.listener is not None
-        clients = []
         try:
             while True:
-                clients.append(self.listener.accept()[0])
-                reply(clients[-1], "503 Service Unavailable", "closed")
+                client = self.listener.accept()[0]
+                reply(client, "503 Service Unavailable", "closed")
+                self.lingering.add(client)
         except OSError:
             pass
-        linger(clients)

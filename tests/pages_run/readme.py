@@ -1,20 +1,19 @@
-"""README.md, and what the launcher does where there is no program or an old one."""
+"""README.md, and what `./office install` does where there is no program or an old one."""
 import os
 import shutil
+import sys
 
 from pages_run.commands import TOP
 from pages_run.expected import Row, run_page
 from pages_run.files import FIRST, alone
 from pages_run.judging import judge
-from pages_run.launcher import judge_launcher, table
 from pages_run.shell import Shell
 
+sys.path.append(str(TOP / "packaging"))
+
+from making.words import table  # noqa: E402
+
 PAGE = "README.md"
-
-
-def is_served(shell: Shell) -> None:
-    judge(f"{PAGE}: serve ends after its count", shell.end() == 0)
-    alone("serve", "first.db", {**FIRST, "runs": 1, "entries": 1, "certificates": 1})(shell)
 
 
 def is_installed(shell: Shell) -> None:
@@ -53,12 +52,11 @@ def judge_installs(shell: Shell) -> None:
 
 
 ROWS = [
-    Row("./office due", skip="a stub stands in for rt, unless PAGES_PREVIEW is set", then=judge_launcher),
+    Row("./office demo", skip="tests/launcher/run tries it"),
+    Row("./office due"),
     Row("./office apply", then=alone("apply", "first.db", {**FIRST, "runs": 1, "entries": 0})),
     Row("./office resume", then=alone("resume", "first.db", {**FIRST, "runs": 1, "entries": 1, "contents": 0})),
     Row("./office certificate", then=alone("certificate", "first.db", {**FIRST, "runs": 1, "certificates": 1})),
-    Row("./office serve", serves=True),
-    Row("curl", then=is_served),
     Row("./office build"),
     Row("./office package", skip="tests/package/run makes it"),
     Row("./office install DIR", then=is_installed),

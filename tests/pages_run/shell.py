@@ -48,6 +48,7 @@ class Shell:
         self.servers: list[subprocess.Popen[bytes]] = []
         # what is taken off the mode of a new file; -1: as this script's
         self.umask = -1
+        self.seconds = SECONDS
 
     def __enter__(self) -> "Shell":
         return self
@@ -58,7 +59,7 @@ class Shell:
 
     def run(self, command: str) -> Done:
         done = subprocess.run(["bash", "-c", command], cwd=self.folder, env=self.env, stdin=subprocess.DEVNULL,
-                              stdout=subprocess.PIPE, stderr=subprocess.PIPE, timeout=SECONDS, umask=self.umask)
+                              stdout=subprocess.PIPE, stderr=subprocess.PIPE, timeout=self.seconds, umask=self.umask)
         return Done(done.returncode, done.stdout.decode(errors="replace"), done.stderr.decode(errors="replace"))
 
     def serve(self, command: str) -> str:

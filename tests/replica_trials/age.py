@@ -2,6 +2,7 @@
 from __future__ import annotations
 
 import os
+import re
 import signal
 import time
 
@@ -66,6 +67,47 @@ def isolated(cluster: Cluster) -> None:
     same_rows(cluster, "age")
 
 
+def seen(cluster: Cluster) -> None:
+    """A client that has seen an answer goes back in time at no machine; each answer tells its age."""
+    begun(cluster)
+    faults = []
+    for number in range(10, 25):
+        machine = number % 3
+        position = posted(cluster, machine, [record(number)]).position
+        for other in range(3):
+            reply = get(cluster, other, f"/records/{number - 8}", Office_After=str(position))
+            if reply.status != 200 or reply.position < position:
+                faults.append((machine, other, position, reply))
+    judge("seen: what one machine answered each other shows to who has seen it", not faults, faults[:3])
+    began = time.monotonic()
+    replies = [get(cluster, it, "/records/1", Office_After=str(10**6)) for it in range(3)]
+    judge("seen: a position that the log does not have is 412 after, at once",
+          all(it[::2] == (412, b'{"error":"after"}') for it in replies) and time.monotonic() - began < 15, replies)
+    replies += [posted(cluster, 0, [record(1)]), ask(cluster.place(1), "GET", "/replica"), ask(cluster.place(2), "PUT", "/x"),
+                ask(cluster.place(1), "POST", "/acts", b"[]", {"Idempotency-Key": "no key"})]
+    judge("seen: answers to acts, errors and /replica tell an age too", all(age_of(it) <= 10 for it in replies), replies)
+    numbers(cluster)
+    same_rows(cluster, "seen")
+
+
+def numbers(cluster: Cluster) -> None:
+    """/metrics in Prometheus' text form, with the numbers of /replica."""
+    for machine in range(3):
+        cluster.wait_for(machine, cluster.position(0))
+    reply = ask(cluster.place(0), "GET", "/metrics")
+    lines = reply.body.decode().splitlines()
+    found = dict(re.findall(r'^office_member_(\w+)\{log="city",member="m0"\} (\S+)$', reply.body.decode(), re.M))
+    described = {it.split()[2] for it in lines if it.startswith(("# HELP ", "# TYPE "))}
+    told = cluster.state(0) or {}
+    judge("metrics: each number has its help, its kind and one line",
+          reply.lines["content-type"] == "text/plain; version=0.0.4" and len(lines) == 3 * len(found) > 30
+          and described == {f"office_member_{it}" for it in found}, lines)
+    judge("metrics: they are those of /replica, and count what was done",
+          int(found["position"]) == told["position"] and found["answers"] == "1" and found["lag"] == "0"
+          and int(found["entries_total"]) == told["position"] and int(found["restores_total"]) == told["restores"]
+          and 0 < int(found["append_transactions_total"]) <= int(found["appended_total"]), found)
+
+
 def seconds_until(cluster: Cluster, machine: int, answers: bool, seconds: float) -> float:
     """The seconds until /replica says so, or as many as it is waited for."""
     began = time.monotonic()
@@ -89,7 +131,7 @@ def hanging(cluster: Cluster) -> None:
         return
     os.kill(office, signal.SIGSTOP)
     took = seconds_until(cluster, 2, False, LIMIT + 60)
-    judge("hang: /replica says so, though no client asks", took < LIMIT + 30, f"{took:.0f} s", always=True)
+    judge("hang: within 30 seconds /replica says so, though no client asks", took < LIMIT, f"{took:.0f} s", always=True)
     took = seconds_until(cluster, 2, True, 120)
     judge("hang: the office is started again", took < 120 and cluster.office_process(2) not in (None, office),
           f"{took:.0f} s", always=True)
@@ -101,14 +143,14 @@ def hanging(cluster: Cluster) -> None:
     began = time.monotonic()
     reply = get(cluster, 1, "/records/1")
     took = time.monotonic() - began
-    judge("hang: a reading is 503 within the limit", reply.status == 503 and took < LIMIT + 5,
+    judge("hang: a reading is 503 within 30 seconds", reply.status == 503 and took < LIMIT,
           f"{reply.body!r} after {took:.0f} s", always=True)
     cluster.wait_for(1, cluster.position(0), 120)
     office = cluster.office_process(0)
     assert office is not None
     os.kill(office, signal.SIGSTOP)
     reply = post(cluster, 0, [record(7)], "hang-1")
-    judge("hang: an entry is 503 unknown", reply.body == b'{"error":"unknown"}', reply)
+    judge("hang: an entry is 503 unknown, or waits until it is done", reply.status in (200, 503), reply)
     reply = posted(cluster, 0, [record(7)], "hang-1")
     judge("hang: the member kills that office, goes back, and does the entry once",
           reply.status == 200 and cluster.office_process(0) != office, reply)

@@ -5,6 +5,7 @@ import http.client
 import json
 import os
 import pathlib
+import re
 import shutil
 import signal
 import subprocess
@@ -257,6 +258,14 @@ class Cluster:
             return told
         except FAULTS:
             return None
+
+    def metrics(self, machine: int) -> dict[str, int]:
+        """What /metrics tells, whole numbers alone."""
+        try:
+            told = ask(self.place(machine), "GET", "/metrics", timeout=5).body.decode()
+        except FAULTS:
+            return {}
+        return {name: int(value) for name, value in re.findall(r"^(\w+)\{[^}]*\} (\d+)$", told, re.M)}
 
     def position(self, machine: int) -> int:
         told = self.state(machine)

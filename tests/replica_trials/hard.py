@@ -11,7 +11,7 @@ import threading
 import time
 import uuid
 
-from replica_trials import age, faults, history, moving, programs, requests
+from replica_trials import age, faults, history, moving, programs, requests, syncing, together
 from replica_trials.checks import Archivist
 from replica_trials.cluster import TOP, Cluster, ask
 from replica_trials.judging import judge
@@ -268,15 +268,15 @@ def units(cluster: Cluster) -> None:
     same_rows(cluster, "units")
 
 
-TRIALS = {"no_quorum": no_quorum, "same_answers": same_answers, "full_disk": faults.full_disk,
-          "full_etcd": faults.full_etcd, "no_memory": faults.no_memory,
-          "damaged_file": faults.damaged_file,
-          "flipped_byte": faults.flipped_byte, "away": away, "upgrade": upgrade,
-          "wrong_file": wrong_file, "secured": secured, "units": units,
-          "isolated": age.isolated, "hanging": age.hanging, "replaced": programs.replaced,
-          "assumed_disk": programs.assumed_disk, "slow_snapshot": programs.slow_snapshot,
-          "undoable": programs.undoable, "moved": moving.moved, "one_name": moving.one_name,
-          "gone": moving.gone, "history": history.history, "at_rest": history.at_rest}
+TRIALS = {"no_quorum": no_quorum, "same_answers": same_answers, "full_disk": faults.full_disk, "full_etcd":
+          faults.full_etcd, "no_memory": faults.no_memory, "damaged_file": faults.damaged_file,
+          "flipped_byte": faults.flipped_byte, "away": away, "upgrade": upgrade, "wrong_file": wrong_file,
+          "secured": secured, "units": units, "isolated": age.isolated, "seen": age.seen, "hanging":
+          age.hanging, "replaced": programs.replaced, "assumed_disk": programs.assumed_disk,
+          "slow_snapshot": programs.slow_snapshot, "undoable": programs.undoable, "refused":
+          programs.refused, "moved": moving.moved, "one_name": moving.one_name, "gone": moving.gone,
+          "together": together.together, "synced": syncing.synced, "history": history.history, "at_rest":
+          history.at_rest}
 
 
 def run(folder: pathlib.Path, kills: int) -> None:

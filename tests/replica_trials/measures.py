@@ -12,7 +12,7 @@ import sys
 import threading
 import time
 import uuid
-from typing import Callable
+from typing import Callable, NamedTuple
 
 from replica_trials.acts import BEGIN
 from replica_trials.checks import Bare
@@ -22,10 +22,10 @@ from replica_trials.posting import posted, record
 from replica_trials.verdict import same_rows
 
 PARTS = ["acts", "leader", "recovery"]
-ROUNDS = 5
+ROUNDS = int(os.environ.get("TRIAL_ROUNDS", "5"))
 SECONDS = 3.0
 # clients, acts a request, bytes of each content
-CASES = [(1, 1, 1000), (6, 1, 1000), (1, 100, 1000)]
+CASES = [(1, 1, 1000), (8, 1, 1000), (32, 1, 1000), (1, 100, 1000)]
 
 
 def median_and_worst(values: list[float], worst: Callable[[list[float]], float] = max) -> str:
@@ -44,21 +44,31 @@ class Numbers:
             return self.last - count
 
 
-def drive(places: list[Place], clients: int, each: int, size: int,
-          numbers: Numbers) -> tuple[float, int]:
-    """Acts a second that clients get done in SECONDS, and how many requests were not 200."""
-    until, counts, wrong = time.time() + SECONDS, [0] * clients, [0] * clients
+class Driven(NamedTuple):
+    """What clients got: acts a second, requests that were not 200, and the seconds of each that was."""
+
+    rate: float
+    wrong: int
+    seconds: list[float]
+
+
+def drive(places: list[Place], clients: int, each: int, size: int, numbers: Numbers) -> Driven:
+    """What clients get done in SECONDS."""
+    until, wrong = time.time() + SECONDS, [0] * clients
+    seconds: list[list[float]] = [[] for _ in range(clients)]
 
     def client(place: int) -> None:
         source = random.Random(place)
         while time.time() < until:
             first = numbers.next(each)
             acts = [record(first + it, source.randbytes(size)) for it in range(each)]
+            body, at = json.dumps(acts).encode(), time.time()
             try:
-                reply = ask(places[place % len(places)], "POST", "/acts",
-                            json.dumps(acts).encode(), {"Idempotency-Key": uuid.uuid4().hex})
-                counts[place] += each if reply.status == 200 else 0
-                wrong[place] += reply.status != 200
+                reply = ask(places[place % len(places)], "POST", "/acts", body, {"Idempotency-Key": uuid.uuid4().hex})
+                if reply.status == 200:
+                    seconds[place].append(time.time() - at)
+                else:
+                    wrong[place] += 1
             except FAULTS:
                 wrong[place] += 1
 
@@ -68,7 +78,13 @@ def drive(places: list[Place], clients: int, each: int, size: int,
         thread.start()
     for thread in threads:
         thread.join()
-    return sum(counts) / (time.time() - began), sum(wrong)
+    found = [it for mine in seconds for it in mine]
+    return Driven(each * len(found) / (time.time() - began), sum(wrong), found)
+
+
+def percentile(values: list[float], part: float) -> float:
+    """In milliseconds."""
+    return 1000 * sorted(values)[min(len(values) - 1, int(part * len(values)))] if values else float("nan")
 
 
 def acts_a_second(folder: pathlib.Path) -> None:
@@ -85,16 +101,18 @@ def acts_a_second(folder: pathlib.Path) -> None:
         ways = {"bare `serve`": [bare.place], "one member": [one.place(0)],
                 "three members, clients at one": [three.place(0)],
                 "three members, clients at all": [three.place(it) for it in range(3)]}
-        print("| Clients, acts a request | Way | Acts a second: median | Worst |\n|---|---|---|---|")
+        print("| Clients, acts a request | Way | Acts a second: median | Worst | Milliseconds: p50 | p99 |\n"
+              "|---|---|---|---|---|---|")
         for clients, each, size in CASES:
-            found: dict[str, list[float]] = {way: [] for way in ways}
+            found: dict[str, list[Driven]] = {way: [] for way in ways}
             for _ in range(ROUNDS):
                 for way, places in ways.items():
-                    rate, failed = drive(places, clients, each, size, numbers)
-                    found[way].append(rate)
-                    wrong += failed
-            for way, rates in found.items():
-                print(f"| {clients}, {each} | {way} | {median_and_worst(rates, min)} |", flush=True)
+                    found[way].append(drive(places, clients, each, size, numbers))
+                    wrong += found[way][-1].wrong
+            for way, rounds in found.items():
+                seconds = [it for round in rounds for it in round.seconds]
+                print(f"| {clients}, {each} | {way} | {median_and_worst([it.rate for it in rounds], min)} | "
+                      f"{percentile(seconds, 0.5):.0f} | {percentile(seconds, 0.99):.0f} |", flush=True)
         judge("acts a second: each request of the measure was answered 200", wrong == 0, wrong)
         memory({"bare `serve`": bare.process.pid, **processes(three, 0)})
     finally:

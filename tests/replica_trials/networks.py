@@ -5,6 +5,7 @@ import ctypes
 import os
 import socket
 import subprocess
+from typing import NamedTuple
 
 NEW_NETWORK = 0x40000000
 LIBC = ctypes.CDLL(None, use_errno=True)
@@ -45,6 +46,28 @@ def cut(name: str, chains: list[str]) -> None:
         rules += (f"add chain inet cut {chain} {{ type filter hook {chain} priority 0; }};"
                   f"add rule inet cut {chain} {way} eth0 drop;")
     subprocess.run(["nsenter", f"--net=/run/netns/{name}", "nft", rules], check=True)
+
+
+class Drop(NamedTuple):
+    """What a machine loses: of what it sends (`output`) or gets (`input`), to or from one machine or all."""
+
+    machine: int
+    chain: str
+    peer: int | None
+    percent: int = 100
+
+
+def lose(names: list[str], drops: list[Drop]) -> None:
+    """From now on these machines lose what is named, and nothing else. What stays on a machine is not touched."""
+    for number, name in enumerate(names):
+        rules = "add table inet cut; delete table inet cut; add table inet cut;"
+        for at, drop in enumerate(it for it in drops if it.machine == number):
+            way, end = ("oifname", "daddr") if drop.chain == "output" else ("iifname", "saddr")
+            peer = "" if drop.peer is None else f"ip {end} 10.77.0.{drop.peer + 1}"
+            chance = "" if drop.percent == 100 else f"numgen random mod 100 < {drop.percent}"
+            rules += (f"add chain inet cut {drop.chain}{at} {{ type filter hook {drop.chain} priority 0; }};"
+                      f"add rule inet cut {drop.chain}{at} {way} eth0 {peer} {chance} drop;")
+        subprocess.run(["nsenter", f"--net=/run/netns/{name}", "nft", rules], check=True)
 
 
 def socket_in(network: str | None) -> socket.socket:

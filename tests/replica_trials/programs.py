@@ -7,9 +7,11 @@ import pathlib
 import random
 import shutil
 import signal
+import subprocess
+import sys
 import time
 
-from replica_trials.cluster import OFFICE, Cluster, ask
+from replica_trials.cluster import OFFICE, TOP, Cluster, ask
 from replica_trials.judging import judge
 from replica_trials.posting import begun, get, halts, post, posted, record
 from replica_trials.verdict import same_rows
@@ -156,3 +158,61 @@ def undoable(cluster: Cluster) -> None:
     judge("undoable: with room it is done, once, by itself",
           reply.status == 200 and reply.position == position + 1 and b"same" not in reply.body, reply)
     same_rows(cluster, "undoable")
+
+
+def refuse(cluster: Cluster, position: int) -> tuple[int, str]:
+    """The status of `refuse`, and what it said."""
+    done = subprocess.run([sys.executable, TOP / "replicas/refuse", cluster.home(0) / "settings.json", str(position)],
+                          capture_output=True, text=True, check=False)
+    return done.returncode, done.stdout + done.stderr
+
+
+def refused(cluster: Cluster) -> None:
+    """An entry for which no machine has the room is refused by an operator; from then on nobody does it."""
+    blocks = cluster.folder / "blocks"
+    blocks.write_text("1200\n")
+    wrapped(cluster, f'ulimit -f "$(cat {blocks})"')
+    begun(cluster, 5)
+    position = cluster.position(0) + 1
+    status, said = refuse(cluster, position)
+    judge("refused: an entry that is not there is not refused", status == 1 and "has no entry" in said, said)
+    status, said = refuse(cluster, position - 1)
+    judge("refused: nor one that members have done", status == 1 and "not promised by m0, m1, m2" in said, said)
+    acts = [record(10 + it, random.Random(9).randbytes(250_000)) for it in range(3)]
+    cluster.kill("member2")
+    post(cluster, 0, acts, "refused-1")
+    wait_blocked(cluster, (0, 1))
+    status, said = refuse(cluster, position)
+    judge("refused: nor one that a member has not promised not to do", status == 1 and "not promised by m2" in said, said)
+    cluster.start_member(2)
+    wait_blocked(cluster, (2,))
+    cluster.kill("member1")
+    cluster.start_member(1)
+    began = time.monotonic()
+    while (told := refuse(cluster, position))[0] == 1 and time.monotonic() - began < 200:
+        time.sleep(1)
+    judge("refused: once each member has promised it, it is, by an entry of its own",
+          told == (0, f"entry {position} is refused by entry {position + 1}\n"), told)
+    judge("refused: a second time it is the same", refuse(cluster, position) == told)
+    for machine in range(3):
+        cluster.wait_for(machine, position + 1, 120)
+    replies = [posted(cluster, it, acts, "refused-1") for it in range(3)]
+    judge("refused: its client is told so by each member",
+          all((it.status, it.body, it.position) == (422, b'{"error":"refused"}', position) for it in replies), replies)
+    blocks.write_text("unlimited\n")
+    judge("refused: acts go on", posted(cluster, 1, [record(6)]).status == 200)
+    cluster.kill("member2")
+    shutil.rmtree(cluster.home(2) / "work")
+    cluster.start_member(2)
+    cluster.wait_for(2, cluster.position(1))
+    judge("refused: a member that does the log again, now with room, leaves it out too",
+          posted(cluster, 2, acts, "refused-1").status == 422 and posted(cluster, 2, [record(7)]).status == 200)
+    same_rows(cluster, "refused")
+
+
+def wait_blocked(cluster: Cluster, machines: tuple[int, ...]) -> None:
+    """Waits until these members have promised not to do an entry."""
+    began = time.monotonic()
+    while time.monotonic() - began < 240 and not all(
+            cluster.etcdctl(0, "get", f"/office/city/blocked/m{it}", "--print-value-only").stdout for it in machines):
+        time.sleep(0.3)

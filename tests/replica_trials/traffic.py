@@ -40,6 +40,10 @@ class Read:
     position: int
     mode: str
     least: int
+    age: float = 0
+    began: float = 0
+    reader: int = 0
+    machine: int = 0
 
 
 class Traffic:
@@ -204,7 +208,8 @@ class Traffic:
                 "newest": {"Office-Read": "newest"}, "after": {"Office-After": str(least)},
                 "plain": {}}
             try:
-                reply = ask(self.member(source), "GET", path, None, asked[mode])
+                machine, began = source.randrange(3), time.time()
+                reply = ask(self.cluster.place(machine), "GET", path, None, asked[mode])
             except FAULTS:
                 self.count("GET: no answer")
                 continue
@@ -212,7 +217,8 @@ class Traffic:
                 self.count("GET: " + json.loads(reply.body).get("error", "a fault"))
             else:
                 self.reads.append(Read(path, reply.status, reply.body, reply.position, mode,
-                                       0 if mode == "plain" else least))
+                                       0 if mode == "plain" else least, float(reply.lines["office-age"]), began,
+                                       number, machine))
             time.sleep(0.1)
 
     # ---- one at a time

@@ -2,6 +2,7 @@
 from __future__ import annotations
 
 import signal
+import subprocess
 
 from replica_trials.acts import KINDS
 from replica_trials.checks import Archivist, accepted_kinds, log_faults, replay, rows_of
@@ -56,8 +57,10 @@ def whole(cluster: Cluster, traffic: Traffic, log: Archivist, what: str,
           not faults, some(faults))
     mine = [it for it in traffic.faults]
     judge(f"{what}: the same key had the same answer, each request an end", not mine, some(mine))
-    answers, faults = replay(entries, cluster.folder / "replay.db", cluster.base + 99,
-                             traffic.reads)
+    memory = cluster.folder / "memory"
+    memory.mkdir()
+    subprocess.run(["mount", "-t", "tmpfs", "tmpfs", memory], check=True)
+    answers, faults = replay(entries, memory / "replay.db", cluster.base + 99, traffic.reads)
     judge(f"{what}: {len(traffic.reads):,} readings are those of an empty office after a replay",
           not faults, some(faults))
     faults = [f"{post} but {answers[post.position - 1]}" for post in traffic.posts
@@ -68,7 +71,8 @@ def whole(cluster: Cluster, traffic: Traffic, log: Archivist, what: str,
     late = [it for it in traffic.reads if it.position < it.least]
     judge(f"{what}: no reading is before the position that it asked for", not late,
           some([str(it) for it in late]))
-    want = rows_of(cluster.folder / "replay.db", cluster.folder / "rows")
+    want = rows_of(memory / "replay.db", cluster.folder / "rows")
+    subprocess.run(["umount", "--lazy", memory], check=True)
     other = [it for it in range(cluster.count)
              if rows_of(cluster.file(it), cluster.folder / "rows") != want]
     judge(f"{what}: all {cluster.count} files have the rows of the replay", not other,

@@ -64,11 +64,15 @@ window.watched = (css, begun) => new Promise((done) => {
     for (const [from, to] of spans) if (to > end) { sum += to - Math.max(from, end); end = to; }
     return sum;
   };
-  const look = () => isSeen() ? requestAnimationFrame(() => later(() => {
+  const look = () => {
+    if (!isSeen()) return requestAnimationFrame(look);
     isHeld = true;
-    const now = performance.now();
-    done([now - begun, waited(now)]);
-  })) : later(look, 4);
+    // once that frame was drawn
+    later(() => {
+      const now = performance.now();
+      done([now - begun, waited(now)]);
+    });
+  };
   look();
 });
 """

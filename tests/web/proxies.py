@@ -35,8 +35,8 @@ def read(browser: Browser, proxy: Proxy, status: int, kind: str, body: str) -> s
 
 
 def members(browser: Browser, proxy: Proxy) -> None:
-    """What a member of an office on several machines answers by itself; by four words, and by one key, it did nothing."""
-    undone = {"quorum", "recovering", "busy", "full", "key", "header"}
+    """What a member of an office on several machines answers by itself; by some words it says that it did nothing."""
+    undone = {"quorum", "recovering", "busy", "full", "key", "refused", "header"}
     for row in TEXTS["members"]:
         status, word = int(row["status"]), json.loads(row["body"])["error"]
         answers(browser, f"{proxy.page}#holds", status, "application/json", row["body"])

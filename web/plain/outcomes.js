@@ -68,13 +68,13 @@ export function fatesOf(answer, count) {
   return { answers, refused, end: whole ? "answered" : nothingDone(answer, body) ? "undone" : "unknown" };
 }
 
-/** With these words a member of an office on several machines says that it put nothing into the log. */
-const NOTHING_IN_LOG = ["quorum", "recovering", "busy", "full"];
+/** With these words a member of an office on several machines, or a gate, says that nothing was done. */
+const NOTHING_IN_LOG = ["quorum", "recovering", "busy", "full", "journal", "office", "closed"];
 
 /** Whether this answer says that no act was done. */
 function nothingDone(answer, body) {
   if (answer.status === 503) return NOTHING_IN_LOG.includes(body?.error);
-  if (answer.status === 422) return body?.error === "key";
+  if (answer.status === 422) return ["key", "refused"].includes(body?.error);
   if ([400, 404, 405, 411, 501].includes(answer.status)) return typeof body?.error === "string";
-  return [401, 403, 413, 429].includes(answer.status);
+  return [401, 403, 413, 421, 429].includes(answer.status);
 }

@@ -76,8 +76,14 @@ async function tellFilters() {
   const isBy = asked.due !== "" && asked.due !== NO_DUE;
   select("due-day").value = isBy ? asked.due : "";
   tellDueDay(isBy);
-  for (const name of names) await fillChoices(name, select(name), name === "due" && isBy ? "by" : asked[name]);
+  for (const name of names) {
+    // the years are of the details, which are read after what is seen first
+    if (name === "year" && !asked.year) select(name).value = "";
+    else await fillChoices(name, select(name), name === "due" && isBy ? "by" : asked[name]);
+  }
 }
+
+const tellYears = () => (FILTERS[asked.part]?.includes("year") ? fillChoices("year", select("year"), asked.year) : null);
 
 /** The day by which something is due is asked for only where that is chosen. */
 const tellDueDay = (isBy) => (select("due-day-field").hidden = !isBy || asked.part !== "records");
@@ -333,4 +339,5 @@ export async function show(words) {
   tellParts();
   tellFilters();
   await draw();
+  await tellYears();
 }

@@ -74,3 +74,4 @@ export function start() {
 
 export const show = (words) => list.show(words);
 export const renew = () => list.renew();
+export const left = () => list.left();

@@ -49,6 +49,7 @@ export class RecordList {
   #asked = 0;
   #table = null;
   #groupsOf = null;
+  #isShort = false;
 
   /** @param {Kind} kind */
   constructor(kind) {
@@ -126,6 +127,7 @@ export class RecordList {
     const rows = sorted(filtered(this.rows, this.filter), this.column, this.down);
     const groups = this.#groupsOf?.(rows) ?? [{ rows }];
     this.shown = groups.flatMap((it) => it.rows);
+    this.#isShort = false;
     this.#table.show(groups);
     this.#table.tellOrder(this.column || this.kind.order, this.down);
     this.#tellTotals();
@@ -203,6 +205,7 @@ export class RecordList {
     if (!rows) {
       failed(place, answer);
       if (!isSame(question, this.question)) this.#forget();
+      else if (this.#isShort) this.#draw();
       return false;
     }
     const marked = isKept ? this.markedRows() : [];
@@ -322,6 +325,13 @@ export class RecordList {
     }
     this.#isFirst = true;
     return this.open(first);
+  }
+
+  /** Is called once another view is seen: this one is read anew when somebody comes back. */
+  left() {
+    if (!this.question || !byId(this.kind.name).hidden) return;
+    this.#isShort = true;
+    this.#table.shorten();
   }
 
   /** Shows the list of today if that of an earlier day is here as today's, on a page that stays open; not while some is marked. */

@@ -169,6 +169,13 @@ export class ListTable {
     this.#fill(this.#wanting.length);
   }
 
+  /** Takes all but the first rows out of the page: a browser lays out a long list anew when its view is seen again. */
+  shorten() {
+    this.#wanting = [];
+    this.table.removeAttribute("aria-busy");
+    for (const group of [...this.table.tBodies].slice(FIRST)) group.remove();
+  }
+
   /** Shows these rows, in this order; each group of them below its heading, where they have such. */
   show(groups) {
     this.#wanting = [];

@@ -28,3 +28,4 @@ export function start() {
 
 export const show = (words) => list.show(words);
 export const renew = () => list.renew();
+export const left = () => list.left();

@@ -1,0 +1,6 @@
+pub mod DeskWork
+pub mod Ends
+pub mod LeftTables
+pub mod Leading
+pub mod Nothing
+pub mod Rests

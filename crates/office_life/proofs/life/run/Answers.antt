@@ -1,0 +1,46 @@
+use Rattle.std.proofs.Common.{◌≡◌, ◌∷◌, ◌++◌, List, [], sym, subst, subst₂, take, rules}
+use Rattle.sqlite_wal.specs.Files.{outcomes}
+use Rattle.std.proofs.lemmas.List.{take_all}
+use Rattle.office_life.specs.Life.{AreKnownFrom, LeadsOn, stage_at_end}
+use Rattle.office_life.specs.Standing.{FilesLead}
+use Rattle.office_life.specs.declared.reports.Report.{Report}
+use Rattle.office_life.specs.declared.reports.Task.{Task}
+use Rattle.office_life.proofs.Leading.{began_at, known_parts, lived_on, one_longer}
+use Rattle.office_life.proofs.life.run.Goals as goal
+
+pub loop-task-init : goal.loop-task-init
+loop-task-init g c = record {
+  log = c.requires.log;
+  db = c.requires.db;
+  led = λ never stage known.
+      let old = outcomes g.D.Disk c.args.files.log c.args.files.db in
+      subst (λ (xs : List Report). FilesLead stage (stage_at_end stage xs) (LeadsOn [] xs) old old) (sym c.new-reports.ensures.items) (began_at stage old);
+}
+
+pub loop-task-preserved : goal.loop-task-preserved
+loop-task-preserved g c = record {
+  log = c.crash.ensures.log;
+  db = c.crash.ensures.db;
+  led = λ never stage known.
+      let it = c.stint-report.result.0 in
+      let reports = c.loop-task.reports.items in
+      let tasks = take c.loop-task.task-index c.args.tasks.now in
+      let asked = c.task-item.result in
+      let now : c.push.new.self.items ≡ reports ++ it ∷ [] = search rules in
+      let more = one_longer c.args.tasks.now c.loop-task.task-index asked c.loop-task-test.true c.task-item.is in
+      let parts = known_parts reports it stage (subst (AreKnownFrom stage) now known) in
+      let old = outcomes g.D.Disk c.args.files.log c.args.files.db in
+      let later = outcomes g.D.Disk c.crash.new.files.log c.crash.new.files.db in
+      let mid = outcomes g.D.Disk c.loop-task.files.log c.loop-task.files.db in
+      let new = outcomes g.D.Disk c.stint-report.result.1.log c.stint-report.result.1.db in
+      let on =
+      lived_on stage tasks reports asked it old mid new later (c.loop-task.invariant.led never stage parts.0) (c.stint-report.ensures never (stage_at_end stage reports) parts.1) c.crash.ensures.fewer in
+      subst₂ (λ (xs : List Task) (ys : List Report). FilesLead stage (stage_at_end stage ys) (LeadsOn xs ys) old later) (sym more) (sym now) on;
+}
+
+pub returns-clause-led : goal.returns-clause-led
+returns-clause-led g c never stage known =
+    let old = outcomes g.D.Disk c.args.files.log c.args.files.db in
+    let now = outcomes g.D.Disk c.loop-task.files.log c.loop-task.files.db in
+    let reports = c.loop-task.reports.items in
+    subst (λ (xs : List Task). FilesLead stage (stage_at_end stage reports) (LeadsOn xs reports) old now) (take_all c.loop-task.task-index c.args.tasks.now c.loop-task-test.false) (c.loop-task.invariant.led never stage known)

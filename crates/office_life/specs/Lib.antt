@@ -1,0 +1,4 @@
+pub mod Fuses
+pub mod Life
+pub mod Standing
+pub mod Tables

@@ -1,0 +1,36 @@
+//! One stint of an office.
+ghost use Rattle.std.specs.Prelude.{IsTrue};
+ghost use Rattle.sqlite_wal.specs.Files.{outcomes};
+ghost use Rattle.office_life.specs.Life.{Leads};
+ghost use Rattle.office_life.specs.Standing.{FilesLead, IsKnownAt, NeverLies, Stage, stage_after};
+
+use crate::closing::close;
+use crate::opening::open;
+use crate::reports::{Report, StintEnd, Task};
+use crate::work::work_at;
+use sqlite::Files;
+use sqlite_disk::Disk;
+use std::alloc::Global;
+
+/// Opens the office in two files, does what is asked, and closes the files. Whatever a crash leaves
+/// of them then stands for the state to which the acts led that the stint did, from the state for
+/// which they stood before.
+pub fn stint<D: Disk + Drop>(alloc: Global, files: Files<D>, task: &Task) -> (Report, Files<D>)
+    requires log { IsTrue (D.Disk.is_usable files.log) }
+    requires db { IsTrue (D.Disk.is_usable files.db) }
+    ensures { NeverLies D.Disk → (stage : Stage) → IsKnownAt stage result.0.remains
+        → FilesLead stage (stage_after stage result.0.remains) (Leads task.now result.0.end)
+        (outcomes D.Disk files.log files.db) (outcomes D.Disk result.1.log result.1.db) }
+{
+    match open(alloc, files) {
+        Ok(conn) => {
+            let (end, conn) = work_at(alloc, conn, task);
+            let (remains, files) = close(conn);
+            (Report { end, remains }, files)
+        }
+        Err((remains, files)) => {
+            let end = StintEnd::FilesShut;
+            (Report { end, remains }, files)
+        }
+    }
+}

@@ -1,0 +1,178 @@
+"""Appending: requests that wait go into the log together, in one transaction, each with its own position and key.
+
+One thread appends. While it waits for a majority, more requests come, and go with the next transaction.
+"""
+from __future__ import annotations
+
+import hashlib
+import json
+import threading
+import time
+from typing import Callable
+
+from replica.errors import NotTaken, Unclear, say
+from replica.etcd import CALL_SECONDS
+from replica.log import Appended, Entry, Log, Request
+
+MOST, LONGEST = 60, 1_048_576
+"""requests of one transaction, and bytes of their bodies: etcd takes 128 operations, and 1.5 MB"""
+MOST_WAITING, MOST_BYTES, WAIT_SECONDS = 2000, 134_217_728, 30
+"""requests, bytes of their bodies, and seconds, until one that was not tried is `busy`"""
+AGAIN_SECONDS = 0.1
+OWN_ENTRIES, OWN_BYTES = 500, 16_777_216
+"""that are kept for the follower, so that it need not read them"""
+
+
+class Waiting:
+    """A request that goes into the log, and what became of it, once `done` is set."""
+
+    def __init__(self, request: Request, entry: Entry) -> None:
+        self.request, self.entry = request, entry
+        self.appended: Appended | None = None
+        self.done = threading.Event()
+        self.is_clear = True
+        """no transaction that had it may still be done"""
+        self.began = time.monotonic()
+
+    def end(self, appended: Appended) -> None:
+        self.appended = appended
+        self.done.set()
+
+    def fail(self, error: NotTaken | Unclear) -> bool:
+        """Whether it has to end, since no try may follow: then it has."""
+        self.is_clear = self.is_clear and isinstance(error, NotTaken)
+        if self.is_clear:
+            self.end(Appended(None, getattr(error, "name", "quorum")))
+        elif time.monotonic() - self.began > 2 * CALL_SECONDS:
+            self.end(Appended(None, "unknown"))
+        return self.done.is_set()
+
+    def is_late(self) -> bool:
+        """Whether it has waited too long for its turn: then it has ended, and is surely not in the log."""
+        if self.is_clear and time.monotonic() - self.began > WAIT_SECONDS and not self.done.is_set():
+            self.end(Appended(None, "busy"))
+        return self.done.is_set()
+
+
+class Appender:
+    """What puts the requests of one member into the log. `run` is for one thread; all else for any."""
+
+    def __init__(self, log: Log) -> None:
+        self.log = log
+        self.position: Callable[[], int] = lambda: 0
+        """gives the last entry that was done here"""
+        self.tell: Callable[[int, int], None] = lambda first, before: None
+        """is called with the first of some new entries, and with what was done here before they were put there"""
+        self.changed = threading.Condition()
+        self.queue: list[Waiting] = []
+        self.own: dict[int, Entry] = {}
+        self.own_bytes = 0
+        self.appended = self.transactions = 0
+
+    # ---- for clients
+
+    def append(self, key: str, kind: str, body: bytes) -> Appended:
+        """Puts a request at the end, once for its key, however often it is called.
+
+        An error of the name `unknown` says that it may be in the log, each other that this call put nothing there.
+        """
+        head = {"key": key, "kind": kind, "member": self.log.member, "program": self.log.program}
+        digest = hashlib.sha256(kind.encode() + b"\n" + body).hexdigest()
+        request = Request(key, json.dumps(head).encode() + b"\n" + body, digest)
+        waiting = Waiting(request, Entry(0, key, kind, self.log.program, body))
+        with self.changed:
+            if len(self.queue) >= MOST_WAITING or sum(len(it.entry.body) for it in self.queue) > MOST_BYTES:
+                return Appended(None, "busy")
+            self.queue.append(waiting)
+            self.changed.notify_all()
+        waiting.done.wait()
+        assert waiting.appended is not None
+        return waiting.appended
+
+    def is_idle(self) -> bool:
+        return not self.queue
+
+    # ---- for the thread
+
+    def run(self) -> None:
+        """Appends what comes. Never returns."""
+        while True:
+            with self.changed:
+                self.changed.wait_for(lambda: self.queue)
+                group = self.group()
+            try:
+                self.append_all(group)
+            except Exception as error:  # without this thread no act would be answered any more
+                say(f"not appended: {error!r}")
+                for it in group:
+                    if not it.done.is_set():
+                        it.end(Appended(None, "unknown"))
+            with self.changed:
+                self.queue = [it for it in self.queue if not it.is_late()]
+
+    def group(self) -> list[Waiting]:
+        """The requests that go together: the first that wait, each key once."""
+        found: list[Waiting] = []
+        keys, size = set(), 0
+        for it in self.queue:
+            size += len(it.entry.body)
+            if found and size > LONGEST or len(found) == MOST:
+                break
+            if it.request.key not in keys:
+                found.append(it)
+                keys.add(it.request.key)
+        return found
+
+    def append_all(self, group: list[Waiting]) -> None:
+        """One transaction. Those that are still not in the log afterwards go with the next one."""
+        before = self.position()
+        try:
+            if self.log.is_full and all(it.is_clear for it in group):
+                raise NotTaken("etcd is nearly full", "full")
+            first, found = self.log.try_append([it.request for it in group])
+        except (NotTaken, Unclear) as error:
+            return self.failed(group, error)
+        if first is None:
+            return self.end_found(group, found)
+        self.appended, self.transactions = self.appended + len(group), self.transactions + 1
+        self.keep(first, group)
+        self.tell(first, before)
+        for number, it in enumerate(group):
+            it.end(Appended(first + number))
+
+    def failed(self, group: list[Waiting], error: NotTaken | Unclear) -> None:
+        """Ends those of which no further try may follow; the others are tried again after a moment."""
+        ended = [it for it in group if it.fail(error)]
+        if ended:
+            clear = sum(it.is_clear for it in ended)
+            say(f"{clear} not appended, {len(ended) - clear} perhaps: {error}")
+        if len(ended) < len(group):
+            time.sleep(AGAIN_SECONDS)
+
+    def end_found(self, group: list[Waiting], found: dict[str, tuple[int, str]]) -> None:
+        """Ends those that an earlier transaction has put into the log."""
+        for it in group:
+            if it.request.key in found:
+                position, digest = found[it.request.key]
+                it.end(Appended(position) if digest == it.request.digest else Appended(None, "key"))
+
+    # ---- for the follower
+
+    def keep(self, first: int, group: list[Waiting]) -> None:
+        """Keeps new entries, until the follower has them or they are too many."""
+        with self.changed:
+            for number, it in enumerate(group):
+                self.own[first + number] = it.entry._replace(position=first + number)
+                self.own_bytes += len(it.entry.body)
+            if len(self.own) > OWN_ENTRIES or self.own_bytes > OWN_BYTES:
+                self.own, self.own_bytes = {}, 0
+
+    def after(self, position: int) -> list[Entry]:
+        """The entries after a position that this member has appended itself, up to the first that it has not."""
+        with self.changed:
+            for it in [it for it in self.own if it <= position]:
+                self.own_bytes -= len(self.own.pop(it).body)
+            found: list[Entry] = []
+            while (entry := self.own.get(position + 1 + len(found))) is not None:
+                found.append(entry)
+        return found

@@ -1,0 +1,89 @@
+"""Who may do what: roles, the names that have them, and the rules of four eyes, as the settings say."""
+from dataclasses import dataclass, field
+from pathlib import Path
+from zoneinfo import ZoneInfo
+
+from office_gate.patterns import fits
+
+
+@dataclass(frozen=True)
+class Grant:
+    """One right. Each limit is a set of classes; all of them hold. `sent` is a right to what a run sent alone."""
+
+    word: str
+    limits: tuple[tuple[str, ...], ...] = ()
+    sent: bool = False
+
+    def is_whole(self) -> bool:
+        return not self.limits and not self.sent
+
+    def covers(self, code: str | None, status: str | None) -> bool:
+        if self.sent and status not in ("sent", "received"):
+            return False
+        return all(code is not None and fits(it, code) for it in self.limits)
+
+
+@dataclass(frozen=True)
+class Person:
+    """A name that signed in, with its rights and the text that the office records as `by`."""
+
+    name: str
+    signs: str
+    roles: tuple[str, ...] = ()
+    grants: tuple[Grant, ...] = ()
+
+    def may(self, word: str) -> bool:
+        """Whether the name has this right for anything at all."""
+        return any(it.word == word for it in self.grants)
+
+    def may_all(self, word: str) -> bool:
+        """Whether the name has this right for everything."""
+        return any(it.word == word and it.is_whole() for it in self.grants)
+
+    def may_in(self, word: str, code: str | None, status: str | None = None) -> bool:
+        """Whether the name has this right for a class. None is what lies in no class, or in one that nobody knows."""
+        return any(it.word == word and it.covers(code, status) for it in self.grants)
+
+    def classes_of(self, word: str) -> list[list[str]] | None:
+        """Returns the classes for which the name has this right, for the page: None if for all."""
+        if self.may_all(word):
+            return None
+        return [[code for limit in it.limits for code in limit] for it in self.grants if it.word == word]
+
+
+@dataclass(frozen=True)
+class Rules:
+    """The rules of four eyes, each off unless the settings switch it on."""
+
+    opener_does_not_carry_out: bool = False
+    confirmer_does_not_open: bool = False
+    changer_days: int | None = None
+    reasons: frozenset[str] = frozenset()
+
+
+@dataclass(frozen=True)
+class Access:
+    """All settings of one office."""
+
+    path: Path
+    digest: str
+    site: str
+    zone: ZoneInfo
+    people: dict[str, Person]
+    others: Person | None
+    rules: Rules = field(default_factory=Rules)
+    requests_at_once: int = 8
+    lists_at_once: int = 2
+    content_days: int = 3
+    journals_readings: bool = True
+
+    def person(self, name: str) -> Person:
+        """Returns whom a name is; one that the settings do not name has the rights of `*`, if there are any."""
+        known = self.people.get(name)
+        if known:
+            return known
+        other = self.others
+        return Person(name, name, other.roles, other.grants) if other else Person(name, name)
+
+    def host(self) -> str:
+        return self.site.split("://", 1)[1]

@@ -1,0 +1,70 @@
+"""The aggregations that the catalogue's copy names: the office itself has no path for them."""
+import datetime
+import gzip
+import json
+import zlib
+from dataclasses import dataclass, field
+from pathlib import Path
+
+
+@dataclass
+class Aggregations:
+    """Of each aggregation the one that it is in, and its own class; and up to which line of the journal that is so."""
+
+    moment: float = 0.0
+    line: int = 0
+    parents: dict[int, int | None] = field(default_factory=dict)
+    classes: dict[int, str | None] = field(default_factory=dict)
+    open_runs: dict[int, str] = field(default_factory=dict)
+
+    def add(self, number: int, parent: int | None, code: str | None) -> None:
+        self.parents[number], self.classes[number] = parent, code
+
+    def chain(self, number: int | None) -> list[int]:
+        """Lists an aggregation and all that it lies in, the nearest first."""
+        found: list[int] = []
+        while number is not None and number in self.parents and number not in found:
+            found.append(number)
+            number = self.parents[number]
+        return found
+
+    def class_of(self, number: int | None) -> str | None:
+        """Returns the class in effect, or None if nobody knows it."""
+        for it in self.chain(number):
+            if self.classes[it] is not None:
+                return self.classes[it]
+        return None
+
+
+def rows(folder: Path, name: str) -> tuple[float, list[dict]]:
+    data = json.loads(gzip.decompress((folder / f"{name}.json.gz").read_bytes()))
+    moment = datetime.datetime.fromisoformat(data["moment"].replace("Z", "+00:00")).timestamp()
+    return moment, data[name]
+
+
+class Catalogue:
+    """The catalogue in a folder, whose link `now` leads to the newest; read anew once that link leads elsewhere."""
+
+    def __init__(self, folder: Path | None) -> None:
+        self.folder = folder
+        self.seen = ""
+        self.found = Aggregations()
+
+    def read(self) -> tuple[Aggregations, bool]:
+        """Returns what is known, and whether it is new."""
+        if self.folder is None:
+            return self.found, False
+        try:
+            at = (self.folder / "now").resolve(strict=True)
+            if str(at) == self.seen:
+                return self.found, False
+            moment, aggregations = rows(at, "aggregations")
+            _, runs = rows(at, "runs")
+            found = Aggregations(moment)
+            for it in aggregations:
+                found.add(it["number"], it["parent"], it["class"])
+            found.open_runs = {it["number"]: it["by"] for it in runs if not it["closed"]}
+        except (OSError, ValueError, KeyError, TypeError, zlib.error):
+            return self.found, False
+        self.seen, self.found = str(at), found
+        return found, True

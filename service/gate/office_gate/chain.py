@@ -1,0 +1,186 @@
+"""The lines of a journal, each with the SHA-256 of the one before: how they are written, read and checked."""
+import hashlib
+import os
+import re
+from collections.abc import Iterator
+from dataclasses import dataclass
+from pathlib import Path
+
+from office_gate.body import text_of, value_of
+from office_gate.errors import Refused
+
+NONE = "0" * 64
+"""what the first line of all has in the place of the one before"""
+BLOCK = 1 << 16
+HEAD = re.compile(r"\b(\d{1,15}):([0-9a-f]{64})\b")
+
+
+def digest(data: bytes) -> str:
+    return hashlib.sha256(data).hexdigest()
+
+
+@dataclass(frozen=True)
+class Head:
+    """The last line of a journal: its number, and its SHA-256."""
+
+    line: int
+    sha256: str
+
+    def __str__(self) -> str:
+        return f"{self.line}:{self.sha256}"
+
+
+START = Head(0, NONE)
+
+
+def linked(entry: dict[str, object], head: Head) -> tuple[bytes, Head]:
+    """Writes an entry as the line after that one. Returns it with its LF, and the new head."""
+    data = text_of({"before": head.sha256, "line": head.line + 1, **entry}).encode()
+    return data + b"\n", Head(head.line + 1, digest(data))
+
+
+def torn(data: bytes) -> dict[str, object]:
+    """What the next line says of bytes that are no whole line."""
+    return {"bytes": len(data), "sha256": digest(data)}
+
+
+# ---- reading
+
+@dataclass(frozen=True)
+class Line:
+    """A line of a file, as it was found there."""
+
+    path: Path
+    place: int
+    data: bytes
+    is_whole: bool
+
+    def where(self) -> str:
+        return f"{self.path}:{self.place}"
+
+    def entry(self) -> dict:
+        """Reads the line; Refused says where there is none."""
+        try:
+            found = value_of(self.data.decode())
+        except Exception as error:
+            raise Refused(1, f"{self.where()}: this is no line of a journal") from error
+        if not isinstance(found, dict) or not str(found.get("line", "")).isdigit() or "before" not in found:
+            raise Refused(1, f"{self.where()}: this is no line of a journal")
+        return found
+
+    def head(self) -> Head:
+        return Head(int(self.entry()["line"]), digest(self.data))
+
+
+def lines_of(path: Path) -> Iterator[Line]:
+    with path.open("rb") as file:
+        for place, data in enumerate(file, 1):
+            yield Line(path, place, data.removesuffix(b"\n"), data.endswith(b"\n"))
+
+
+def first_number(path: Path) -> int:
+    """Returns the number of the first line of a file that is one."""
+    for line in lines_of(path):
+        entry = entry_of(line)
+        if entry is not None:
+            return int(entry["line"])
+    return 0
+
+
+def files_of(place: Path) -> list[Path]:
+    """Lists the files of a journal in their order: that one, and those that were rotated, as NAME-20261128."""
+    found = [it for it in place.parent.glob(f"{place.name}*") if it == place or it.name.startswith(f"{place.name}-")]
+    whole = [it for it in found if it.is_file() and it.stat().st_size]
+    return sorted(whole, key=lambda it: (first_number(it), it.name))
+
+
+def last_line(path: Path) -> tuple[bytes, bytes]:
+    """Returns the last whole line of a file and what follows it, both empty if there is none."""
+    size = path.stat().st_size
+    with path.open("rb") as file:
+        data = b""
+        while len(data) < size:
+            data = os.pread(file.fileno(), min(BLOCK, size - len(data)), max(0, size - len(data) - BLOCK)) + data
+            if data.count(b"\n") >= 2:
+                break
+    whole, _, rest = data.rpartition(b"\n")
+    return whole.rpartition(b"\n")[2], rest
+
+
+@dataclass
+class Checked:
+    """What a check of a journal found."""
+
+    first: int = 0
+    head: Head = START
+    lines: int = 0
+    rest: bytes | None = None
+
+
+def check(files: list[Path], known: dict[int, str] | None = None) -> Checked:
+    """Follows the chain through all lines. Refused names the line at which it breaks, and how.
+
+    `known` are heads that were written down elsewhere, by their numbers: by these a chain that somebody
+    wrote anew, or cut at its end, is found too.
+    """
+    found, known = Checked(), dict(known or {})
+    for path in files:
+        for line in lines_of(path):
+            entry = entry_of(line)
+            if entry is None:
+                found.rest = line.data if found.rest is None else found.rest + b"\n" + line.data
+                continue
+            compare(line, entry, found)
+            found.rest, found.head, found.lines = None, line.head(), found.lines + 1
+            if known.pop(found.head.line, found.head.sha256) != found.head.sha256:
+                raise Refused(1, f"{line.where()}: line {found.head.line} is another than the one whose SHA-256 was "
+                                 "written down: somebody wrote the journal anew from there on, or from before")
+    early = [it for it in known if it < found.first]
+    if len(known) > len(early):
+        raise Refused(1, f"line {min(known.keys() - set(early))} was written down and is not there: the journal ends "
+                         f"with line {found.head.line}, so its end was cut")
+    return found
+
+
+def entry_of(line: Line) -> dict | None:
+    """Reads a line, or returns None if a stop in the middle of a writing left it."""
+    try:
+        return line.entry() if line.is_whole else None
+    except Refused:
+        return None
+
+
+def compare(line: Line, entry: dict, found: Checked) -> None:
+    """Compares a line with the one before it, and with what a stop left between the two."""
+    number, before = int(entry["line"]), found.head
+    if found.lines == 0:
+        found.first = number
+        if number == 1 and entry["before"] != NONE:
+            raise Refused(1, f"{line.where()}: this is line 1, but names a line before it")
+        return
+    if number > before.line + 1:
+        raise Refused(1, f"{line.where()}: after line {before.line} comes line {number}: lines were cut out")
+    if number <= before.line:
+        raise Refused(1, f"{line.where()}: after line {before.line} comes line {number}: a line was added or moved")
+    if entry["before"] != before.sha256:
+        raise Refused(1, f"{line.where()}: line {before.line} was changed: its SHA-256 is not the one that line "
+                         f"{number} names")
+    wanted = None if found.rest is None else text_of(torn(found.rest))
+    said = text_of(entry["torn"]) if "torn" in entry else None
+    if said != wanted:
+        raise Refused(1, f"{line.where()}: between line {before.line} and line {number} are other bytes than this "
+                         "line names: they were added, changed or cut")
+
+
+def told(text: str) -> dict[int, str]:
+    """Reads heads that were written down: each LINE:SHA256 of a text."""
+    return {int(number): sha256 for number, sha256 in HEAD.findall(text)}
+
+
+def entries(files: list[Path]) -> Iterator[dict]:
+    """Gives the entries of all lines, in their order; what a stop left is passed over."""
+    for path in files:
+        for line in lines_of(path):
+            entry = entry_of(line)
+            if entry is not None:
+                yield entry

@@ -1,0 +1,73 @@
+"""The words of office-gate."""
+import argparse
+import os
+import sys
+from pathlib import Path
+
+from office_gate import settings
+from office_gate.errors import Refused
+from office_gate.words import MAY, READS
+
+
+def serve(it: argparse.Namespace) -> int:
+    """stand between nginx and an office"""
+    try:
+        from office_gate import running
+    except ModuleNotFoundError as error:
+        raise Refused(2, f"there is no {error.name}: apt-get install python3-aiohttp") from error
+    names = ("settings", "journal", "state", "token", "catalogue", "socket")
+    running.run({name: getattr(it, name) for name in names}, it.office)
+    return 0
+
+
+def check(it: argparse.Namespace) -> int:
+    """read a file of settings, and say what is wrong"""
+    access = settings.read(it.settings)
+    roles = {role for person in access.people.values() for role in person.roles}
+    print(f"names: {len(access.people)}, roles that a name has: {len(roles)}, SHA-256 {access.digest}")
+    return 0
+
+
+def rights(it: argparse.Namespace) -> int:
+    """print what a name may do"""
+    person = settings.read(it.settings).person(it.name)
+    print(f"{person.name} signs as {person.signs}, roles: {' '.join(person.roles) or 'none'}")
+    for word in [*MAY, *(f"read {it}" for it in READS)]:
+        if person.may(word):
+            for grant in [it for it in person.grants if it.word == word]:
+                limits = " and ".join("in " + " ".join(limit) for limit in grant.limits)
+                print(" ".join(filter(None, [word, limits, "if sent" if grant.sent else ""])))
+    return 0
+
+
+def words() -> argparse.ArgumentParser:
+    parser = argparse.ArgumentParser("office-gate", allow_abbrev=False)
+    kinds = parser.add_subparsers(required=True, metavar="COMMAND")
+    one = kinds.add_parser("serve", help=serve.__doc__, allow_abbrev=False)
+    one.set_defaults(what=serve)
+    one.add_argument("--office", required=True, metavar="HOST:PORT")
+    for name in ("settings", "journal", "state", "token"):
+        one.add_argument(f"--{name}", type=Path, required=True)
+    for name in ("catalogue", "socket"):
+        one.add_argument(f"--{name}", type=Path)
+    one = kinds.add_parser("check", help=check.__doc__, allow_abbrev=False)
+    one.set_defaults(what=check)
+    one.add_argument("settings", type=Path)
+    one = kinds.add_parser("rights", help=rights.__doc__, allow_abbrev=False)
+    one.set_defaults(what=rights)
+    one.add_argument("settings", type=Path)
+    one.add_argument("name")
+    return parser
+
+
+def main(arguments: list[str]) -> int:
+    it = words().parse_args(arguments)
+    os.umask(0o027)
+    try:
+        return it.what(it)
+    except Refused as refused:
+        print(f"office-gate: {refused}", file=sys.stderr)
+        return refused.status
+    except OSError as error:
+        print(f"office-gate: {error}", file=sys.stderr)
+        return 3

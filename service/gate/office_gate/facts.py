@@ -1,0 +1,154 @@
+"""What the gate knows from its journal: who did what to which thing, who opened the run, and aggregations of today.
+
+All of it is derived. The file is made anew from the journal if it is lost, or was made from another one.
+"""
+import sqlite3
+import time
+from pathlib import Path
+
+from office_gate.body import number_in
+from office_gate.catalogue import Aggregations
+from office_gate.chain import Head
+from office_gate.words import OF_RECORD
+
+TABLES = """
+CREATE TABLE IF NOT EXISTS folded (one INTEGER PRIMARY KEY CHECK (one = 1), line INTEGER, sha256 TEXT);
+CREATE TABLE IF NOT EXISTS touches (line INTEGER, at REAL, name TEXT, kind TEXT, thing TEXT);
+CREATE INDEX IF NOT EXISTS of_thing ON touches(thing);
+CREATE INDEX IF NOT EXISTS of_name ON touches(name, at);
+CREATE TABLE IF NOT EXISTS aggregations (line INTEGER, place INTEGER, at REAL, kind TEXT, number INTEGER,
+    parent INTEGER, class TEXT, PRIMARY KEY (line, place));
+CREATE TABLE IF NOT EXISTS runs (line INTEGER, place INTEGER, name TEXT, number INTEGER, PRIMARY KEY (line, place));
+"""
+MARGIN = 120.0
+"""so many seconds before its moment the journal is read on from a catalogue: what is done twice makes no difference"""
+
+
+NONE_OPEN = "18"
+"""the refusal that says that no run is open"""
+
+
+def is_none_open(answer: object) -> bool:
+    return isinstance(answer, dict) and str(answer.get("refused")) == NONE_OPEN
+
+
+def thing_of(act: dict) -> str | None:
+    """Names what an act that decides about disposal is about."""
+    kind = act["act"]
+    if kind in OF_RECORD:
+        number = number_in(act, "record")
+        return None if number is None else f"record:{number}"
+    if kind == "reclassify":
+        return str(act.get("target"))
+    if kind == "set-class-schedule":
+        return f"class:{act.get('class')}"
+    return None
+
+
+class Facts:
+    """The tables, in a file beside the journal."""
+
+    def __init__(self, path: Path) -> None:
+        self.db = sqlite3.connect(path, isolation_level=None)
+        self.db.executescript("PRAGMA journal_mode = WAL; PRAGMA synchronous = OFF;" + TABLES)
+
+    def folded(self) -> Head | None:
+        found = self.db.execute("SELECT line, sha256 FROM folded").fetchone()
+        return Head(*found) if found else None
+
+    def forget(self) -> None:
+        for table in ("folded", "touches", "aggregations", "runs"):
+            self.db.execute(f"DELETE FROM {table}")
+
+    def begin(self) -> None:
+        self.db.execute("BEGIN")
+
+    def commit(self, head: Head) -> None:
+        self.db.execute("INSERT OR REPLACE INTO folded VALUES (1, ?, ?)", (head.line, head.sha256))
+        self.db.execute("COMMIT")
+
+    def undo(self) -> None:
+        if self.db.in_transaction:
+            self.db.execute("ROLLBACK")
+
+    # ---- folding
+
+    def fold(self, asked: dict, answered: dict, line: int, at: float) -> None:
+        """Takes what a request did, or may have done, of its two lines."""
+        name, answers = str(asked["name"]), answered.get("answers")
+        if asked["request"] == "POST /run/resume":
+            if str(answered.get("status")) == "200" or is_none_open(answered.get("answer")):
+                self.closed()
+            return
+        for place, act in enumerate(asked.get("acts") or []):
+            answer = answers[place] if isinstance(answers, list) and place < len(answers) else None
+            if answer is None and answered.get("known", True):
+                continue
+            if is_none_open(answer):
+                self.closed()
+            elif answer is None or "refused" not in answer:
+                self.done(act, answer, name, (line, place, at))
+
+    def done(self, act: dict, answer: dict | None, name: str, where: tuple[int, int, float]) -> None:
+        kind, (line, place, at) = act["act"], where
+        thing = thing_of(act)
+        if thing is not None:
+            # of what nobody knows the kind has a mark
+            self.db.execute("INSERT INTO touches VALUES (?, ?, ?, ?, ?)",
+                            (line, at, name, kind if answer else f"{kind}?", thing))
+        number = answer.get("number") if answer else None
+        if kind == "add-aggregation" and number is not None:
+            self.note(where, kind, int(number), act)
+        elif kind == "reclassify" and str(act.get("target")).startswith("aggregation:"):
+            self.note(where, kind if answer else "unknown", int(act["target"].split(":")[1]), act)
+        elif kind == "open-run":
+            if answer:
+                self.closed()
+            self.db.execute("INSERT OR REPLACE INTO runs VALUES (?, ?, ?, ?)",
+                            (line, place, name, None if number is None else int(number)))
+        elif kind == "run-step" and answer and "certificate" in answer:
+            self.closed()
+
+    def note(self, where: tuple[int, int, float], kind: str, number: int, act: dict) -> None:
+        line, place, at = where
+        self.db.execute("INSERT OR REPLACE INTO aggregations VALUES (?, ?, ?, ?, ?, ?, ?)",
+                        (line, place, at, kind, number, number_in(act, "parent"), act.get("class")))
+
+    def closed(self) -> None:
+        self.db.execute("DELETE FROM runs")
+
+    # ---- what is known
+
+    def extend(self, base: Aggregations) -> None:
+        """Brings the aggregations of a catalogue up to now."""
+        rows = self.db.execute("SELECT line, kind, number, parent, class FROM aggregations WHERE line > ? AND at > ? "
+                               "ORDER BY line, place", (base.line, base.moment - MARGIN))
+        for line, kind, number, parent, code in rows:
+            base.line = line
+            if kind == "add-aggregation":
+                base.add(number, parent, code)
+            elif kind == "unknown":
+                base.parents.pop(number, None)
+            elif number in base.parents:
+                base.classes[number] = code
+
+    def openers(self) -> set[str]:
+        """Returns who opened the run that is open, as far as the journal says."""
+        return {name for (name,) in self.db.execute("SELECT name FROM runs")}
+
+    def confirmers(self, record: int) -> set[str]:
+        """Returns who confirmed a record last; more than one name if nobody knows whose was the last."""
+        found: set[str] = set()
+        for name, kind in self.db.execute("SELECT name, kind FROM touches WHERE thing = ? AND kind IN ('confirm', "
+                                          "'confirm?') ORDER BY line DESC", (f"record:{record}",)):
+            found.add(name)
+            if kind == "confirm":
+                break
+        return found
+
+    def touched(self, name: str, days: int) -> set[str]:
+        """Lists what a name gave a schedule or a class within so many days."""
+        found = self.db.execute("SELECT DISTINCT thing FROM touches WHERE name = ? AND at > ? AND rtrim(kind, '?') IN "
+                                "('set-record-schedule', 'reclassify', 'set-class-schedule', 'review')",
+                                (name, time.time() - days * 86400))
+        return {thing for (thing,) in found}

@@ -1,0 +1,208 @@
+"""What one gate has open: its settings, the journal, what it knows, the office; and how it acts for a name."""
+import asyncio
+import sqlite3
+import time
+from dataclasses import dataclass, field
+
+from office_gate import body, deciding, settings
+from office_gate.access import Access
+from office_gate.catalogue import Aggregations, Catalogue
+from office_gate.catching import catch_up
+from office_gate.chain import Head, digest
+from office_gate.contents import noted
+from office_gate.deciding import Asked
+from office_gate.errors import Answered, Refused, say
+from office_gate.eyes import Eyes
+from office_gate.facts import Facts
+from office_gate.journal import Journal
+from office_gate.metrics import Metrics
+from office_gate.office import UNKNOWN, Answer, Office
+from office_gate.scopes import Asking, Scopes
+from office_gate.turns import AtOnce
+
+Written = asyncio.Future[Head]
+"""the line of an answer, once it is on the disk"""
+
+
+def answered(asked: Head, answer: Answer) -> dict[str, object]:
+    """What the journal says of an answer of the office."""
+    found: dict[str, object] = {"what": "answered", "of": asked.line, "status": answer.status}
+    try:
+        said = body.value_of(answer.body.decode())
+    except (ValueError, RecursionError):
+        said = None
+    if isinstance(said, list):
+        found["answers"] = said
+    elif isinstance(said, dict) and isinstance(said.get("answers"), list):
+        found |= {"answers": said["answers"], "fault": said.get("fault")}
+    else:
+        found["answer"] = said
+    if "Office-Position" in answer.lines:
+        found["position"] = answer.lines["Office-Position"]
+    if not answer.is_known or isinstance(said, dict) and "fault" in said:
+        found["known"] = False
+    return found
+
+
+@dataclass
+class Gate:
+    """The parts of a gate, made by `starting.opened`."""
+
+    access: Access
+    token: str
+    journal: Journal
+    facts: Facts
+    catalogue: Catalogue
+    office: Office
+    metrics: Metrics = field(default_factory=Metrics)
+    requests: AtOnce = field(default_factory=AtOnce)
+    lists: AtOnce = field(default_factory=AtOnce)
+    acting: asyncio.Lock = field(default_factory=asyncio.Lock)
+    is_behind: bool = False
+
+    # ---- settings
+
+    async def reload(self) -> None:
+        """Takes the settings as they are now, if nothing is wrong with them, and opens the journal anew."""
+        try:
+            access = settings.read(self.access.path)
+        except Refused as refused:
+            say(f"the settings stay as they were: {refused}")
+        else:
+            is_new, self.access = access.digest != self.access.digest, access
+            if is_new:
+                await self.journal.append({"what": "settings", "sha256": access.digest})
+                say(f"new settings, SHA-256 {access.digest}")
+        await self.journal.in_thread(self.journal.reopen)
+
+    def aggregations(self) -> Aggregations:
+        found, is_new = self.catalogue.read()
+        if is_new:
+            self.facts.extend(found)
+        return found
+
+    # ---- acts
+
+    async def acts(self, asked: Asked, data: bytes) -> tuple[Answer, Head]:
+        """Does the acts of a list for a name. Answered says that it may not: then nothing was done."""
+        entry = self.head(asked, "POST /acts") | {"body": {"bytes": len(data), "sha256": digest(data)}}
+        try:
+            acts = body.acts_of(data)
+            entry["acts"], _ = noted(acts)
+            deciding.kinds(asked.person, acts)
+            deciding.sign(asked.person, acts)
+            if earlier := deciding.days(self.access, asked.person, acts):
+                entry["earlier"] = earlier
+            for place, act in enumerate(acts):
+                deciding.reason(self.access, asked, act["act"], place)
+            sent = body.bytes_of(acts)
+            async with self.acting:
+                await self.judge(asked, acts)
+                entry["acts"], parts = noted(acts)
+                if parts:
+                    entry["contents"] = await self.journal.in_thread(self.journal.contents.add, parts)
+                answer, written = await self.send(asked, entry, "/acts", sent)
+        except Answered as refused:
+            await self.refuse(entry, refused)
+            raise
+        return await self.durable(answer, written)
+
+    async def judge(self, asked: Asked, acts: list[dict]) -> None:
+        """Looks at classes and at the rules of four eyes, while nobody else acts."""
+        self.recover()
+        known = self.aggregations()
+        await deciding.classes(asked.person, acts, Scopes(known, self.asking(asked)))
+        await Eyes(self.access, self.facts, known, self.office).acts(asked.person, acts)
+
+    def asking(self, asked: Asked) -> Asking:
+        async def record(number: int) -> dict | None:
+            answer = await self.office.get(asked.person.name, f"/records/{number}", {"Office-Read": "newest"})
+            if answer.status not in (200, 404):
+                raise Answered(503, "office")
+            return answer.json() if answer.status == 200 else None
+        return record
+
+    async def resume(self, asked: Asked) -> tuple[Answer, Head]:
+        """Carries out the run that is open."""
+        entry = self.head(asked, "POST /run/resume")
+        try:
+            deciding.resume(self.access, asked)
+            async with self.acting:
+                self.recover()
+                Eyes(self.access, self.facts, self.aggregations(), self.office).carry_out(asked.person)
+                answer, written = await self.send(asked, entry, "/run/resume", None)
+        except Answered as refused:
+            await self.refuse(entry, refused)
+            raise
+        return await self.durable(answer, written)
+
+    async def send(self, asked: Asked, entry: dict, path: str, data: bytes | None) -> tuple[Answer, Written]:
+        """Sends what acts. It is in the journal before the office has it."""
+        began = time.monotonic()
+        head = await self.journal.append({"what": "asked", **entry})
+        try:
+            answer = await self.office.post(asked.person.name, path, data, asked.lines)
+        except Answered as closed:
+            answer = Answer(closed.status, body.text_of(closed.body()).encode())
+        except Exception as error:
+            say(f"the office is not asked as it should be: {error!r}")
+            answer = UNKNOWN
+        said = answered(head, answer)
+        # the next act is decided while the disk takes this line
+        written = asyncio.ensure_future(self.journal.append(said))
+        await asyncio.sleep(0)
+        self.learn(entry, said, head)
+        self.metrics.note("act", answer.status, time.monotonic() - began)
+        return answer, written
+
+    async def durable(self, answer: Answer, written: Written) -> tuple[Answer, Head]:
+        """Waits until an answer is in the journal. If it does not get there, nobody is told what was done."""
+        try:
+            return answer, await written
+        except Answered:
+            return UNKNOWN, self.journal.written
+
+    def learn(self, entry: dict, said: dict, head: Head) -> None:
+        """Takes what was done into what the gate knows. If the disk does not take it, no act follows before it does."""
+        try:
+            self.facts.begin()
+            self.facts.fold(entry, said, head.line, time.time())
+            self.facts.commit(self.journal.head)
+            self.facts.extend(self.catalogue.found)
+        except sqlite3.Error as error:
+            say(f"what was done is not noted: {error}")
+            self.facts.undo()
+            self.is_behind = True
+
+    def recover(self) -> None:
+        """Takes from the journal what was not noted, or refuses to act."""
+        if not self.is_behind:
+            return
+        try:
+            self.facts.forget()
+            catch_up(self.journal.path, self.facts, self.journal.written)
+        except (sqlite3.Error, OSError) as error:
+            self.facts.undo()
+            raise Answered(503, "journal") from error
+        self.is_behind = False
+
+    async def refuse(self, entry: dict, refused: Answered) -> None:
+        self.metrics.note("refused", refused.status, 0.0)
+        line = {"what": "refused", **entry, "status": refused.status, "answer": refused.body()}
+        await self.journal.append(line, is_durable=False)
+
+    def head(self, asked: Asked, request: str) -> dict[str, object]:
+        """What each line says of a request."""
+        found: dict[str, object] = {"name": asked.person.name, "from": asked.origin, "request": request}
+        if asked.reason:
+            found["reason"] = asked.reason
+        if key := asked.lines.get("Idempotency-Key"):
+            found["key"] = key[:200]
+        return found
+
+    async def note(self, asked: Asked, request: str, status: int, length: int) -> None:
+        """Writes the line of a reading."""
+        self.metrics.note("read", status, 0.0)
+        if self.access.journals_readings or status >= 400:
+            line = {"what": "read", **self.head(asked, request), "status": status, "bytes": length}
+            await self.journal.append(line, is_durable=False)

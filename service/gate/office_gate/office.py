@@ -1,0 +1,114 @@
+"""The office behind the gate: one request, one answer. While the office restarts, requests wait."""
+import asyncio
+import json
+import time
+from dataclasses import dataclass, field
+
+import aiohttp
+
+from office_gate.errors import Answered
+from office_gate.turns import Turns
+
+WAIT_SECONDS = 120.0
+"""so long a request waits for an office that does not answer, if nothing of it was sent"""
+ANSWER_SECONDS = 300.0
+TRY_SECONDS = 0.1
+AT_ONCE = 2
+"""one is served, and the next is there already"""
+PASSED_LINES = ("Idempotency-Key", "Office-Read", "Office-After")
+"""the lines that a member of an office on several machines reads"""
+
+
+@dataclass(frozen=True)
+class Answer:
+    """What the office answered. `is_known` is false if it may have acted and nobody knows."""
+
+    status: int
+    body: bytes
+    kind: str = "application/json"
+    lines: dict[str, str] = field(default_factory=dict)
+    is_known: bool = True
+
+    def json(self) -> object:
+        return json.loads(self.body)
+
+
+UNKNOWN = Answer(502, b'{"error":"unknown"}', is_known=False)
+BACK_LINES = ("Allow", "Office-Position", "Office-Age")
+
+
+class Office:
+    """An office at an address, asked in turns that are fair to each name."""
+
+    def __init__(self, address: str) -> None:
+        self.address = f"http://{address}"
+        self.turns = Turns(AT_ONCE)
+        self.session: aiohttp.ClientSession | None = None
+
+    async def start(self) -> None:
+        limits = aiohttp.ClientTimeout(total=None, sock_connect=10, sock_read=ANSWER_SECONDS)
+        self.session = aiohttp.ClientSession(connector=aiohttp.TCPConnector(limit=0, force_close=True), timeout=limits,
+                                             auto_decompress=False, cookie_jar=aiohttp.DummyCookieJar())
+
+    async def stop(self) -> None:
+        if self.session:
+            await self.session.close()
+
+    async def get(self, name: str, path: str, lines: dict[str, str] | None = None) -> Answer:
+        """Reads something. A reading is asked again if its answer was lost."""
+        return await self.asked(name, "GET", path, None, lines or {})
+
+    async def post(self, name: str, path: str, body: bytes | None, lines: dict[str, str]) -> Answer:
+        """Sends what acts, once."""
+        return await self.asked(name, "POST", path, body, lines)
+
+    async def asked(self, name: str, method: str, path: str, body: bytes | None, lines: dict[str, str]) -> Answer:
+        ends = time.monotonic() + WAIT_SECONDS
+        while True:
+            async with self.turns.turn(name):
+                answer = await self.once(method, path, body, lines)
+            if answer is not None and not is_closed(answer):
+                return answer
+            if time.monotonic() >= ends:
+                raise Answered(503, "office")
+            await asyncio.sleep(TRY_SECONDS)
+
+    async def once(self, method: str, path: str, body: bytes | None, lines: dict[str, str]) -> Answer | None:
+        """Sends a request once. None says that nothing was done, or that it was a reading."""
+        assert self.session is not None
+        is_reading = method == "GET"
+        try:
+            async with self.session.request(method, self.address + path, data=body, headers=lines,
+                                            skip_auto_headers=("User-Agent", "Accept-Encoding", "Content-Type"),
+                                            allow_redirects=False) as reply:
+                data = await reply.read()
+                back = {it: reply.headers[it] for it in BACK_LINES if it in reply.headers}
+                kind = reply.headers.get("Content-Type", "application/json")
+        except aiohttp.ClientConnectorError:
+            return None
+        except asyncio.TimeoutError as error:
+            if is_reading:
+                raise Answered(504, "time") from error
+            return UNKNOWN
+        except (aiohttp.ClientError, OSError):
+            return None if is_reading else UNKNOWN
+        is_known = is_reading or not is_lost(reply.status, data)
+        return Answer(reply.status, data, kind, back, is_known)
+
+
+def word_of(data: bytes) -> str | None:
+    try:
+        body = json.loads(data) if len(data) < 4096 else None
+    except ValueError:
+        return None
+    return body.get("error") if isinstance(body, dict) else None
+
+
+def is_closed(answer: Answer) -> bool:
+    """Whether office-serve says that FILE could not be opened: nothing was done."""
+    return answer.status == 503 and word_of(answer.body) == "closed"
+
+
+def is_lost(status: int, data: bytes) -> bool:
+    """Whether acts may be done that the answer does not name."""
+    return status >= 500 and word_of(data) in ("unknown", "memory", "time", "office")

@@ -1,0 +1,177 @@
+"""The requests of a journal that acted, as they can be done once more."""
+import base64
+import datetime
+import sqlite3
+from collections.abc import Iterator
+from contextlib import closing
+from dataclasses import dataclass, field
+from pathlib import Path
+
+from office_gate.body import number_in
+from office_gate.chain import entries
+from office_gate.contents import Contents
+from office_gate.errors import Refused
+from office_gate.words import OF_RECORD
+
+Span = tuple[int, int]
+"""the acts of a request from one place up to another"""
+
+
+def seconds(at: object) -> float:
+    return datetime.datetime.fromisoformat(str(at)).timestamp()
+
+
+@dataclass
+class Request:
+    """What was asked and answered. Of a request without a whole answer nobody knows how much of it was done."""
+
+    line: int
+    asked_at: float
+    acts: list[dict] | None
+    contents: dict | None
+    answers: list = field(default_factory=list)
+    answered_at: float = float("inf")
+    status: int = 0
+    is_known: bool = False
+
+    def count(self) -> int:
+        """Returns how many acts it has; of POST /run/resume nobody knows how many steps."""
+        return len(self.acts) if self.acts is not None else 1
+
+    def acted(self) -> bool:
+        """Whether it did anything, or may have."""
+        return not self.is_known or self.status in (200, 409) and (self.acts is not None or self.status == 200)
+
+    def spans(self, moment: float) -> list[Span]:
+        """Lists what may have to be done of it after a copy of that moment, the likeliest first."""
+        if self.answered_at <= moment:
+            return []
+        ends = [self.count()]
+        if not self.is_known:
+            likely = [len(self.answers)] if self.answers else [self.count(), 0]
+            ends = list(dict.fromkeys([*likely, *range(self.count(), len(self.answers) - 1, -1)]))
+        begins = [0] if self.asked_at > moment else [0, *range(self.count(), 0, -1)]
+        return [(begin, end) for end in ends for begin in begins if begin <= end]
+
+
+def take(entry: dict) -> Request:
+    acts = entry.get("acts") if entry["request"] == "POST /acts" else None
+    return Request(int(entry["line"]), seconds(entry["at"]), acts, entry.get("contents"))
+
+
+def read(files: list[Path]) -> list[Request]:
+    """Reads all requests that were sent to the office."""
+    found: dict[int, Request] = {}
+    for entry in entries(files):
+        if entry.get("what") == "asked":
+            found[int(entry["line"])] = take(entry)
+        elif entry.get("what") == "answered" and (it := found.get(int(entry["of"]))):
+            it.answers = entry.get("answers") or []
+            it.is_known = bool(entry.get("known", True))
+            it.status = int(entry.get("status", 0))
+            if it.is_known:
+                it.answered_at = seconds(entry["at"])
+            if it.acts is None and isinstance(entry.get("answer"), dict):
+                it.answers = [entry["answer"]]
+    return list(found.values())
+
+
+# ---- contents, which the journal has not
+
+class Kept:
+    """The contents that the gate keeps, and those of an office's file."""
+
+    def __init__(self, contents: Contents, beside: Path | None) -> None:
+        self.contents = contents
+        self.beside = sqlite3.connect(f"file:{beside}?immutable=1", uri=True) if beside else None
+
+    def of(self, request: Request) -> list[dict]:
+        """Returns the acts of a request with their contents."""
+        at = int(str(request.contents["from"])) if request.contents else 0
+        found = []
+        for act in request.acts or []:
+            it = dict(act)
+            if isinstance(act.get("content"), dict) and "bytes" in act["content"]:
+                length, sha256 = int(str(act["content"]["bytes"])), act["content"]["sha256"]
+                data = self.one(request, at, length, sha256)
+                it["content"] = base64.b64encode(data).decode()
+                at += length
+            found.append(it)
+        return found
+
+    def one(self, request: Request, at: int, length: int, sha256: str) -> bytes:
+        day = str((request.contents or {}).get("day"))
+        data = self.contents.read(day, at, length, sha256)
+        if data is None and self.beside:
+            query = "SELECT bytes FROM contents JOIN records ON num = record WHERE digest = ? LIMIT 1"
+            row = self.beside.execute(query, (sha256,)).fetchone()
+            data = row[0] if row else None
+        if data is None:
+            raise Refused(1, f"line {request.line}: a content of {length} bytes, SHA-256 {sha256}, is no longer there")
+        return data
+
+
+# ---- what an act, and a row of a table, is about
+
+NAMED = {"add-schedule": ("schedule", "code"), "add-class": ("class", "code"), "set-class-schedule": ("class", "class"),
+         "place-hold": ("hold", "code"), "hold-on": ("hold", "hold"), "hold-off": ("hold", "hold"),
+         "lift-hold": ("hold", "hold"), "add-aggregation": ("ref", "ref"), "add-record": ("ref", "ref"),
+         "close-aggregation": ("aggregation", "aggregation")}
+REFERRED = {"schedule": "schedule", "class": "class", "aggregation": "aggregation", "parent": "aggregation"}
+TABLES = {"office": ("one", "day"), "schedules": ("code", "schedule"), "schedules2": ("code", "schedule"),
+          "classes": ("code", "class"), "aggregations": ("num", "aggregation"), "records": ("num", "record"),
+          "contents": ("record", "record"), "holds": ("code", "hold"), "targets": ("hold", "hold"),
+          "runs": ("num", "run"), "entries": ("record", "record"), "certificates": ("run", "run"),
+          "events": ("record", "record")}
+
+
+def keys_of(act: dict) -> set[str]:
+    """Names what an act changes. Two acts without a name in common seldom concern each other."""
+    kind, found = act.get("act"), set()
+    if kind in OF_RECORD:
+        found.add(f"record:{number_in(act, 'record')}")
+    elif kind in NAMED:
+        thing, name = NAMED[kind]
+        found.add(f"{thing}:{act.get(name)}")
+    if kind in ("reclassify", "hold-on", "hold-off"):
+        found.add(str(act.get("target")))
+    if kind in ("open-run", "run-step"):
+        found.add("run")
+    if kind in ("add-record", "add-aggregation", "open-run"):
+        found.add(f"numbers of {kind}")
+    return found
+
+
+def needs_of(act: dict, *answers: object) -> set[str]:
+    """Names what the answer to an act depends on: what it changes, what it names, and what its answers name."""
+    found = keys_of(act)
+    if not all(isinstance(it, dict) and "number" in it for it in answers):
+        found.discard(f"numbers of {act.get('act')}")
+    found |= {f"{thing}:{act[name]}" for name, thing in REFERRED.items() if act.get(name) is not None}
+    if act.get("act") in OF_RECORD:
+        # a run may have ended it
+        found.add("run")
+    found |= {f"record:{it['record']}" for it in answers if isinstance(it, dict) and "record" in it}
+    # a thing with a number may not have been made at all
+    found |= {f"numbers of add-{thing}" for thing in ("record", "aggregation")
+              if any(it.startswith(f"{thing}:") for it in found)}
+    return found
+
+
+def differences(left: Path, right: Path) -> list[tuple[str, set[str]]]:
+    """Lists the rows in which two files of an office differ, with what each is about."""
+    found: list[tuple[str, set[str]]] = []
+    with closing(sqlite3.connect(f"file:{left}?immutable=1", uri=True)) as db:
+        db.execute("ATTACH ? AS other", (f"file:{right}?immutable=1",))
+        for table, (key, thing) in TABLES.items():
+            for row in differing(db, table):
+                named = dict(zip([it[1] for it in db.execute(f"PRAGMA table_info({table})")], row))
+                keys = {f"{thing}:{named[key]}"} | ({f"ref:{named['ref']}"} if "ref" in named else set())
+                found.append((f"{table} {key} {named[key]}", keys | ({"run"} if thing == "run" else set())))
+    return found
+
+
+def differing(db: sqlite3.Connection, table: str) -> Iterator[tuple]:
+    one, two = f"SELECT * FROM main.{table}", f"SELECT * FROM other.{table}"
+    yield from db.execute(f"{one} EXCEPT {two}")
+    yield from db.execute(f"{two} EXCEPT {one}")

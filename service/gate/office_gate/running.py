@@ -1,0 +1,91 @@
+"""The gate as a service: the socket that systemd keeps, readiness, a watchdog, a reload, an end that loses nothing."""
+import asyncio
+import os
+import signal
+import socket
+import time
+from pathlib import Path
+
+from office_serve.listening import FIRST, tell
+
+from office_gate import starting
+from office_gate.errors import Refused, say
+from office_gate.gate import Gate
+from office_gate.serving import Front
+
+BACKLOG = 4096
+STOP_SECONDS = 300
+PRUNE_SECONDS = 3600
+
+
+def listener(place: Path | None) -> socket.socket:
+    """Returns the socket that systemd passes, or else a new one of the file system."""
+    if os.environ.pop("LISTEN_PID", "") == str(os.getpid()) and os.environ.pop("LISTEN_FDS", "") == "1":
+        os.set_inheritable(FIRST, False)
+        return socket.socket(fileno=FIRST)
+    if place is None:
+        raise Refused(2, "there is no --socket, and systemd passes none")
+    place.unlink(missing_ok=True)
+    it = socket.socket(socket.AF_UNIX, socket.SOCK_STREAM)
+    it.bind(str(place))
+    place.chmod(0o660)
+    it.listen(BACKLOG)
+    return it
+
+
+async def watch(gate: Gate) -> None:
+    """Tells the watchdog of systemd that requests are answered and lines are written; without one it does nothing."""
+    seconds = int(os.environ.get("WATCHDOG_USEC", "0")) / 2_000_000
+    while seconds:
+        await gate.journal.in_thread(time.monotonic)
+        await asyncio.to_thread(tell, "WATCHDOG=1")
+        await asyncio.sleep(seconds)
+
+
+async def prune(gate: Gate) -> None:
+    while True:
+        await asyncio.sleep(PRUNE_SECONDS)
+        await asyncio.to_thread(gate.journal.contents.prune, gate.access.content_days)
+
+
+async def serve(gate: Gate, at: socket.socket) -> None:
+    """Serves until SIGTERM. Then what is under way is answered, and whoever comes waits at the socket."""
+    loop, stop = asyncio.get_running_loop(), asyncio.Event()
+    await starting.begin(gate)
+    front = Front(gate)
+    server = await loop.create_unix_server(front, sock=at, backlog=BACKLOG)
+    for number in (signal.SIGTERM, signal.SIGINT):
+        loop.add_signal_handler(number, stop.set)
+    tasks = [asyncio.ensure_future(watch(gate)), asyncio.ensure_future(prune(gate))]
+
+    def reload() -> None:
+        tasks.append(asyncio.ensure_future(gate.reload()))
+    loop.add_signal_handler(signal.SIGHUP, reload)
+    tell("READY=1")
+    say(f"head {gate.journal.head}")
+    print("listening", flush=True)
+    await stop.wait()
+    tell("STOPPING=1")
+    server.close()
+    await drained(front)
+    for it in tasks:
+        it.cancel()
+    await front.shutdown(1)
+    await gate.journal.append({"what": "closed"})
+    say(f"head {gate.journal.head}")
+    await gate.office.stop()
+    gate.journal.close()
+
+
+async def drained(front: Front) -> None:
+    """Waits until each connection that was accepted has its answer."""
+    ends = time.monotonic() + STOP_SECONDS
+    while front.connections and time.monotonic() < ends:
+        await asyncio.sleep(0.01)
+
+
+def run(paths: dict[str, Path | None], address: str) -> None:
+    at = listener(paths["socket"])
+    gate = starting.opened(paths, address)
+    asyncio.run(serve(gate, at))
+

@@ -1,0 +1,108 @@
+"""The classes that an act is about: of records the office is asked, of aggregations the catalogue and the journal."""
+import json
+from collections.abc import Awaitable, Callable
+
+from office_gate.body import number_in
+from office_gate.catalogue import Aggregations
+from office_gate.words import OF_RECORD
+
+Scope = list[str | None]
+"""classes, for each of which a right is needed. None is in no class, or in one that nobody knows"""
+Asking = Callable[[int], Awaitable[dict | None]]
+"""returns what the office reports of a record"""
+
+
+def text(value: object) -> str | None:
+    return value if type(value) is str else None
+
+
+def split(target: object) -> tuple[str, str]:
+    kind, _, name = (text(target) or "").partition(":")
+    return kind, name
+
+
+class Scopes:
+    """The classes of one list of acts, as they are before its first act."""
+
+    def __init__(self, aggregations: Aggregations, asking: Asking) -> None:
+        self.aggregations, self.asking = aggregations, asking
+        self.records: dict[int, dict | None] = {}
+
+    async def record(self, number: int | None) -> dict | None:
+        if number is None:
+            return None
+        if number not in self.records:
+            self.records[number] = await self.asking(number)
+        return self.records[number]
+
+    async def class_of_record(self, number: int | None) -> str | None:
+        found = await self.record(number)
+        return found["class"] if found else None
+
+    def class_of(self, number: int | None) -> str | None:
+        return self.aggregations.class_of(number)
+
+    async def of(self, act: dict) -> Scope:
+        kind = act["act"]
+        if kind == "set-class-schedule":
+            return [text(act.get("class"))]
+        if kind == "add-class":
+            return [text(act.get("code"))]
+        if kind == "add-aggregation":
+            return self.both(act, "parent")
+        if kind == "close-aggregation":
+            return [self.class_of(number_in(act, "aggregation"))]
+        if kind == "add-record":
+            return self.both(act, "aggregation")
+        if kind in OF_RECORD:
+            return [await self.class_of_record(number_in(act, "record"))]
+        if kind == "reclassify":
+            return await self.of_reclassified(act)
+        if kind in ("hold-on", "hold-off"):
+            return [await self.of_target(act.get("target"))]
+        return [None]
+
+    def both(self, act: dict, container: str) -> Scope:
+        """What is put into a container is in the class that it names, and counts for that of the container."""
+        found: Scope = []
+        if act.get("class") is not None:
+            found.append(text(act["class"]))
+        if act.get(container) is not None:
+            found.append(self.class_of(number_in(act, container)))
+        return found or [None]
+
+    async def of_target(self, target: object) -> str | None:
+        kind, name = split(target)
+        if kind == "class":
+            return name
+        number = int(name) if name.isascii() and name.isdigit() and len(name) <= 10 else None
+        if kind == "aggregation":
+            return self.class_of(number)
+        return await self.class_of_record(number) if kind == "record" else None
+
+    async def of_reclassified(self, act: dict) -> Scope:
+        """The class that the target has, and the one that it gets: its own, or else what it then inherits."""
+        before = await self.of_target(act.get("target"))
+        if act.get("class") is not None:
+            return [before, text(act["class"])]
+        kind, name = split(act.get("target"))
+        number = int(name) if name.isascii() and name.isdigit() and len(name) <= 10 else None
+        if kind == "record":
+            found = await self.record(number)
+            return [before, self.class_of(found["aggregation"]) if found else None]
+        return [before, self.class_of(self.aggregations.parents.get(number or 0))]
+
+
+def given_in(acts: list[dict]) -> Scope:
+    """The classes that the list gives to things: within the list a thing may have any of these."""
+    return [text(it.get("class")) for it in acts if it["act"] == "reclassify" and it.get("class") is not None]
+
+
+def has_thing(act: dict) -> bool:
+    """Whether an act is about a record or an aggregation that is there, whose class the list may change."""
+    return act["act"] in (*OF_RECORD, "reclassify", "close-aggregation", "add-record", "add-aggregation") or \
+        act["act"] in ("hold-on", "hold-off") and split(act.get("target"))[0] != "class"
+
+
+def record_of(body: bytes) -> dict:
+    return json.loads(body)

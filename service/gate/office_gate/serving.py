@@ -1,0 +1,160 @@
+"""The requests that nginx passes on: one a connection, read whole, answered once."""
+import asyncio
+import json
+import sys
+import traceback
+
+from aiohttp import web
+from aiohttp.web_protocol import RequestHandler
+
+from office_gate import guards
+from office_gate.deciding import Asked
+from office_gate.errors import Answered
+from office_gate.gate import Gate
+from office_gate.guards import Lines
+from office_gate.office import Answer
+from office_gate.reading import Reading
+
+BODY_SECONDS = 60
+POSTS = ("/acts", "/run/resume")
+GETS = ("/records/", "/due/", "/overdue/", "/certificates/", "/rights", "/alive", "/metrics", "/may")
+
+
+class Connection(RequestHandler):
+    """A connection. Of bytes that are no request the journal has a line too."""
+
+    def handle_error(self, request, status=500, exc=None, message=None) -> web.StreamResponse:
+        self._manager.note_unreadable()
+        return reply(status if status < 500 else 500, {"error": "head" if status < 500 else "gate"})
+
+
+class Front(web.Server):
+    """The server of aiohttp, with one answer a connection."""
+
+    def __init__(self, gate: Gate) -> None:
+        super().__init__(self.handle, access_log=None, keepalive_timeout=0, lingering_time=1.0, auto_decompress=False,
+                         max_line_size=16384, max_headers=64, max_field_size=16384)
+        self.gate = gate
+        self.under_way = 0
+
+    def __call__(self) -> RequestHandler:
+        return Connection(self, loop=self._loop, **self._kwargs)
+
+    def note_unreadable(self) -> None:
+        """Bytes that are no request have no name and no path."""
+        self.gate.metrics.note("refused", 400, 0.0)
+        entry = {"what": "refused", "name": "", "request": "no request", "status": 400, "answer": {"error": "head"}}
+        asyncio.ensure_future(quiet(self.gate.journal.append(entry, is_durable=False)))
+
+    async def handle(self, request: web.BaseRequest) -> web.StreamResponse:
+        self.under_way += 1
+        try:
+            # an act goes on if its client goes away
+            return await asyncio.shield(asyncio.ensure_future(self.answer(request)))
+        except Answered as refused:
+            return reply(refused.status, refused.body())
+        except ConnectionError:
+            raise
+        except Exception:
+            traceback.print_exc(file=sys.stderr)
+            return reply(500, {"error": "gate"})
+        finally:
+            self.under_way -= 1
+
+    async def answer(self, request: web.BaseRequest) -> web.StreamResponse:
+        what = f"{request.method} {request.raw_path}"[:400]
+        name, journaled = "", False
+        try:
+            lines = Lines(request.raw_headers)
+            name = guards.name_of(self.gate, lines)
+            is_post = request.method == "POST"
+            guards.site(self.gate, lines, is_post)
+            asked = Asked(self.gate.access.person(name), lines.one("Office-From")[:64], guards.reason(lines),
+                          dict(guards.passed(lines)))
+            with self.gate.requests.one(name, self.gate.access.requests_at_once):
+                method(request)
+                if is_post:
+                    data = await self.body(request, lines) if request.raw_path == "/acts" else b""
+                    journaled = True
+                    return await self.act(request.raw_path, asked, data)
+                if request.raw_path == "/may":
+                    return await self.may(asked, lines)
+                answer = await Reading(self.gate, asked).answer(request.raw_path)
+                await self.gate.note(asked, what, answer.status, len(answer.body))
+                return passed_back(answer)
+        except Answered as refused:
+            if not journaled:
+                await self.gate.refuse(self.entry(name, request), refused)
+            raise
+        except Exception:
+            await self.gate.refuse(self.entry(name, request), Answered(500, "gate"))
+            raise
+
+    def entry(self, name: str, request: web.BaseRequest) -> dict[str, object]:
+        """What the journal says of a request that came to no decision."""
+        what = f"{request.method} {request.raw_path}"[:400]
+        return {"name": name, "from": request.headers.get("Office-From", "")[:64], "request": what}
+
+    async def act(self, path: str, asked: Asked, data: bytes) -> web.StreamResponse:
+        if path == "/acts":
+            answer, head = await self.gate.acts(asked, data)
+        else:
+            answer, head = await self.gate.resume(asked)
+        back = passed_back(answer)
+        back.headers["Office-Journal"] = str(head)
+        return back
+
+    async def body(self, request: web.BaseRequest, lines: Lines) -> bytes:
+        """Reads a body whole."""
+        length = guards.length(lines)
+        try:
+            async with asyncio.timeout(BODY_SECONDS):
+                return await request.content.readexactly(length) if length else b""
+        except (asyncio.IncompleteReadError, TimeoutError, web.HTTPException) as error:
+            raise Answered(400, "body") from error
+        except Exception as error:
+            # what aiohttp raises of a connection that ended
+            raise Answered(400, "body") from error
+
+    async def may(self, asked: Asked, lines: Lines) -> web.StreamResponse:
+        verb, path = lines.one("Office-Method"), lines.one("Office-Path")
+        guards.site(self.gate, lines, verb == "PUT")
+        await Reading(self.gate, asked).may(verb, path)
+        await self.gate.note(asked, f"{verb} {path}"[:400], 204, 0)
+        return reply(204, None)
+
+
+async def quiet(what) -> None:
+    try:
+        await what
+    except Answered:
+        pass
+
+
+def method(request: web.BaseRequest) -> None:
+    """Refuses a path that is none, and another method than that of the path."""
+    path = request.raw_path
+    if path in POSTS:
+        if request.method != "POST":
+            raise Answered(405, "method")
+    elif not path.startswith(GETS):
+        raise Answered(404, "path")
+    elif request.method != "GET":
+        raise Answered(405, "method")
+
+
+def reply(status: int, body: object) -> web.Response:
+    data = b"" if body is None else json.dumps(body, separators=(",", ":"), sort_keys=True).encode()
+    return closed(web.Response(status=status, body=data, content_type=None if body is None else "application/json"))
+
+
+def passed_back(answer: Answer) -> web.Response:
+    back = web.Response(status=answer.status, body=answer.body, headers={"Content-Type": answer.kind})
+    for name, value in answer.lines.items():
+        back.headers[name] = value
+    return closed(back)
+
+
+def closed(response: web.Response) -> web.Response:
+    response.force_close()
+    return response

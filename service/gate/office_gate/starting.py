@@ -1,0 +1,47 @@
+"""How a gate begins: it finds the end of its journal, and takes what the lines say into what it knows."""
+import asyncio
+from pathlib import Path
+
+from office_gate import settings
+from office_gate.catalogue import Catalogue
+from office_gate.catching import catch_up, unanswered
+from office_gate.contents import Contents
+from office_gate.errors import Refused
+from office_gate.facts import Facts
+from office_gate.gate import Gate
+from office_gate.journal import Journal
+from office_gate.office import Office
+
+LEAST_TOKEN = 32
+
+
+def token_of(path: Path) -> str:
+    """Reads the token that nginx sends with each request."""
+    try:
+        text = path.read_text().strip()
+    except (OSError, UnicodeDecodeError) as error:
+        raise Refused(2, f"{path} is not read: {error}") from error
+    if len(text) < LEAST_TOKEN or not text.isascii() or not text.isalnum():
+        raise Refused(2, f"{path} has no token of {LEAST_TOKEN} letters and digits or more: openssl rand -hex 32")
+    return text
+
+
+def opened(paths: dict[str, Path | None], address: str) -> Gate:
+    """Opens all parts. The journal's first line is written by `begin`."""
+    access = settings.read(paths["settings"])
+    token = token_of(paths["token"])
+    journal = Journal(paths["journal"], Contents(paths["state"] / "contents"))
+    journal.open()
+    return Gate(access, token, journal, Facts(paths["state"] / "facts.db"), Catalogue(paths["catalogue"]),
+                Office(address))
+
+
+async def begin(gate: Gate) -> None:
+    """Writes that the gate is open, and which requests an end of the gate left without an answer."""
+    await gate.journal.append({"what": "opened", "settings": gate.access.digest})
+    for line in unanswered(gate.journal.path, gate.facts):
+        await gate.journal.append({"what": "answered", "of": line, "status": 0, "known": False})
+    catch_up(gate.journal.path, gate.facts, gate.journal.head)
+    gate.facts.extend(gate.aggregations())
+    await gate.office.start()
+    await asyncio.to_thread(gate.journal.contents.prune, gate.access.content_days)

@@ -1,0 +1,24 @@
+"""The words of the gate: kinds of acts, what can be read, and which members of an act name a thing."""
+
+ACTS = ("add-schedule", "add-class", "set-class-schedule", "add-aggregation", "close-aggregation", "add-record",
+        "set-record-schedule", "reclassify", "place-hold", "hold-on", "hold-off", "lift-hold", "confirm", "review",
+        "open-run", "run-step", "receipt", "event")
+"""the kinds of acts of a list (docs/ACTS.md)"""
+RESUME = "resume"
+"""POST /run/resume"""
+VAULT = "vault"
+"""PUT of a file into the vault"""
+LATER_DAY = "later-day"
+"""an act whose day is after today"""
+MAY = (*ACTS, RESUME, VAULT, LATER_DAY)
+
+READS = ("records", "contents", "lists", "certificates", "catalogue", "health")
+"""a record; its content and its files; what is due and overdue; a certificate; the catalogue; whether all is well"""
+
+SIGNED = ("place-hold", "confirm", "review", "open-run", "receipt", "event")
+"""the kinds whose member `by` names a person"""
+OF_RECORD = ("set-record-schedule", "confirm", "review", "receipt", "event")
+"""the kinds whose member `record` names what they are about"""
+RUN = ("open-run", "run-step", RESUME)
+DECISIONS = ("confirm", "review", "set-record-schedule", "reclassify", "set-class-schedule")
+"""the kinds that decide which records a run takes"""

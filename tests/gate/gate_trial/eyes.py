@@ -1,0 +1,124 @@
+"""Four eyes: what one name did keeps it from the other step, also by way of a list, a file or a class."""
+import pathlib
+
+from gate_trial.base import ROLES, filing, made
+from gate_trial.judging import judge, same
+from gate_trial.world import World, today
+
+NAMES = "".join(f"name {it} is records-manager\n" for it in ("anna", "berta", "carl", "records-manager"))
+NAMES += "name legal is legal\nname registry is registry\nlimit requests 64\nname anna signs Anna A.\n"
+RULES = "rule opener-does-not-carry-out\nrule confirmer-does-not-open\nrule changer-does-not-open 30\n"
+OPEN, STEP = {"act": "open-run"}, {"act": "run-step"}
+
+
+def confirm(record: int) -> dict:
+    return {"act": "confirm", "record": record, "action": "destroy"}
+
+
+def tried(folder: pathlib.Path) -> None:
+    world = made(folder, NAMES + RULES, ROLES)
+    opener(world)
+    confirmer(world)
+    changer(world)
+    reasons(world)
+    off(world)
+    judge("the chain holds", world.check().returncode == 0, world.check().stderr)
+    world.end()
+
+
+def eyes(world: World, what: str, name: str, rule: str, *acts: dict) -> None:
+    status, said = world.act(name, *acts)
+    same(what, (status, said.get("error"), said.get("rule")), (403, "eyes", rule))
+    same(f"{what}: it is in the journal", world.last("refused")["name"], name)
+
+
+def resume(world: World, name: str) -> int:
+    return world.ask(name, "POST", "/run/resume", b"")[0]
+
+
+def opener(world: World) -> None:
+    """Who opened a run does not carry it out, step by step or at once, before or after a start of the gate."""
+    rule = "opener-does-not-carry-out"
+    eyes(world, "both in one list", "anna", rule, OPEN, STEP)
+    same("anna opens", world.act("anna", OPEN)[0], 200)
+    eyes(world, "anna does not step", "anna", rule, STEP)
+    same("anna does not resume", resume(world, "anna"), 403)
+    world.stop_gate()
+    for it in world.state.glob("facts.db*"):
+        it.unlink()
+    world.start_gate()
+    same("nor after a start", resume(world, "anna"), 403)
+    same("berta resumes", resume(world, "berta"), 200)
+    same("then no run is open", resume(world, "anna"), 409)
+
+
+def confirmer(world: World) -> None:
+    """Who confirmed a record does not open the run that takes it; nor does who opens confirm while it is open."""
+    rule = "confirmer-does-not-open"
+    eyes(world, "confirmed and opened in one list", "anna", rule, confirm(1), OPEN)
+    eyes(world, "opened and confirmed in one list", "anna", rule, OPEN, confirm(1))
+    same("anna confirms", world.act("anna", confirm(1))[0], 200)
+    eyes(world, "anna does not open", "anna", rule, OPEN)
+    same("berta opens", world.act("berta", OPEN)[0], 200)
+    eyes(world, "berta does not confirm while it is open", "berta", rule, confirm(2))
+    eyes(world, "nor give another schedule", "berta", "changer-does-not-open",
+         {"act": "set-record-schedule", "record": 1, "schedule": "D0"})
+    same("carl may confirm meanwhile", world.act("carl", confirm(2))[0], 200)
+    same("carl resumes", resume(world, "carl"), 200)
+    same("both records ended", [world.get("carl", f"/records/{it}")[1]["status"] for it in (1, 2)], ["ended", "ended"])
+    # a confirmation that the journal does not have, since it was made past the gate
+    world.act("registry", filing(3, 1))
+    world.direct("POST", "/acts",
+                 f'[{{"act":"confirm","day":"{today()}","record":3,"action":"destroy","by":"Anna A."}}]'.encode())
+    eyes(world, "the office has her name", "anna", rule, OPEN)
+    same("after another's confirmation she may", (world.act("berta", confirm(3))[0], world.act("anna", OPEN)[0]),
+         (200, 200))
+    same("and berta carries it out", resume(world, "berta"), 200)
+
+
+def changer(world: World) -> None:
+    """Nor does who gave the record, its file or its class another schedule or class."""
+    rule = "changer-does-not-open"
+    world.act("registry", {"act": "add-aggregation", "ref": "C", "title": "C", "parent": 1}, filing(4, 3))
+    changes = [{"act": "set-record-schedule", "record": 4, "schedule": "D0"},
+               {"act": "reclassify", "target": "record:4", "class": "BLDG1"},
+               {"act": "reclassify", "target": "aggregation:3", "class": "BLDG1"},
+               {"act": "reclassify", "target": "aggregation:1", "class": "BLDG1"},
+               {"act": "set-class-schedule", "class": "BLDG1", "schedule": "D0"}]
+    for at, act in enumerate(changes):
+        name = f"changer{at}"
+        names = "".join(f"name changer{it} is records-manager\n" for it in range(len(changes)))
+        if at == 0:
+            world.reload(ROLES + NAMES + RULES + names)
+        status, said = world.act(name, act)
+        same(f"{act} is done", status, 200)
+        same("berta confirms", world.act("berta", confirm(4))[0], 200)
+        eyes(world, f"after {act['act']} {act.get('target', '')}", name, rule, OPEN)
+    same("carl, who did nothing, opens", world.act("carl", OPEN)[0], 200)
+    same("anna carries it out", resume(world, "anna"), 200)
+    same("a record that no run takes does not count", world.act("changer0", OPEN)[0], 200)
+    same("anna carries it out", resume(world, "anna"), 200)
+
+
+def reasons(world: World) -> None:
+    """An act that needs a reason is refused without one; the journal has it, in any writing."""
+    world.reload(ROLES + NAMES + RULES + "rule reason-for lift-hold resume\n")
+    status, said = world.act("legal", {"act": "lift-hold", "hold": "H"})
+    same("without a reason", (status, said["error"], said["act"]), (400, "reason", "lift-hold"))
+    same("an empty one is none", world.act("legal", {"act": "lift-hold", "hold": "H"}, Office_Reason="%20")[0], 400)
+    same("with one", world.act("legal", {"act": "lift-hold", "hold": "H"},
+                               Office_Reason="Urteil%20vom%203.%20M%C3%A4rz")[0], 200)
+    same("it is in the journal", world.last("asked")["reason"], "Urteil vom 3. März")
+    same("one that cannot be read", world.act("legal", {"act": "lift-hold", "hold": "H"}, Office_Reason="%ff")[0], 400)
+    same("a run without a reason", resume(world, "berta"), 400)
+    status, _ = world.ask("berta", "POST", "/run/resume", b"", {"Office-Reason": "quarter"})
+    same("a run with one", status, 409)
+
+
+def off(world: World) -> None:
+    """Without their lines the rules are off."""
+    world.reload(ROLES + NAMES)
+    world.act("registry", filing(5, 1))
+    status, said = world.act("anna", confirm(5), OPEN, STEP)
+    same("one name does all", (status, [it.get("outcome", "") for it in said]), (200, ["", "", "destroyed"]))
+    same("and resumes", resume(world, "anna"), 200)

@@ -1,0 +1,198 @@
+"""The chain of the journal: what was changed, cut or added is found; stops, rotations and a full disk break nothing."""
+import json
+import pathlib
+import resource
+import signal
+import subprocess
+import sys
+import time
+
+from gate_trial.base import SETTINGS, made
+from gate_trial.judging import judge, same
+from gate_trial.world import JOURNAL, PYTHON, World
+
+sys.path.insert(0, str(JOURNAL.parent))
+
+from office_gate import chain  # noqa: E402
+from office_gate.errors import Refused  # noqa: E402
+
+
+def tried(folder: pathlib.Path) -> None:
+    world = made(folder)
+    for at in range(12):
+        world.act("legal", {"act": "place-hold", "code": f"H{at}", "reason": "r"})
+        world.ask("auditor", "GET", "/records/1")
+    world.stop_gate()
+    forged(world)
+    torn(world)
+    rotated(world)
+    alone(world)
+    full(world)
+    readings(world)
+    world.end()
+
+
+def quick(place: pathlib.Path, *heads: str) -> tuple[int, str]:
+    """Checks as the command does, without starting it."""
+    try:
+        found = chain.check(chain.files_of(place), chain.told(" ".join(heads)))
+    except Refused as refused:
+        return refused.status, str(refused)
+    return 0, f"head {found.head}"
+
+
+def check(place: pathlib.Path, *more: str) -> tuple[int, str]:
+    """Checks by the command."""
+    done = subprocess.run([PYTHON, "-I", JOURNAL, "check", place, *more], capture_output=True, text=True, check=False)
+    return done.returncode, done.stdout + done.stderr
+
+
+def forged(world: World) -> None:
+    """What somebody does to the lines is found, with the place of it."""
+    lines = world.journal.read_bytes().splitlines(keepends=True)
+    place = world.folder / "forged/journal"
+    place.parent.mkdir()
+    heads = [f"{at}:{chain.digest(it[:-1])}" for at, it in enumerate(lines, 1)]
+
+    def with_lines(what: str, other: list[bytes], word: str, *more: str) -> None:
+        place.write_bytes(b"".join(other))
+        status, said = quick(place, *more)
+        judge(f"{what}: status 1", status == 1 and word in said, (status, said))
+
+    place.write_bytes(b"".join(lines))
+    same("the journal itself", check(place)[0], 0)
+    for at in range(len(lines) - 1):
+        changed = lines[at].replace(b'"at":"2', b'"at":"3')
+        with_lines(f"line {at + 1} changed", [*lines[:at], changed, *lines[at + 1:]], f"line {at + 1} was changed")
+        if at:
+            with_lines(f"line {at + 1} cut out", [*lines[:at], *lines[at + 1:]], "lines were cut out")
+        with_lines(f"line {at + 1} twice", [*lines[:at], lines[at], *lines[at:]], "a line was added or moved")
+        with_lines(f"lines {at + 1} and {at + 2} changed over",
+                   [*lines[:at], lines[at + 1], lines[at], *lines[at + 2:]], "line")
+        with_lines(f"something after line {at + 1}", [*lines[:at + 1], b"something\n", *lines[at + 1:]], "other bytes")
+    # who writes all lines anew from some line on leaves a chain that holds: heads that were written down find it
+    anew, head = lines[:6], chain.Head(6, chain.digest(lines[5][:-1]))
+    for data in lines[7:]:
+        entry = json.loads(data)
+        line, head = chain.linked({name: it for name, it in entry.items() if name not in ("before", "line")}, head)
+        anew.append(line)
+    place.write_bytes(b"".join(anew))
+    same("all written anew, without heads", check(place)[0], 0)
+    with_lines("all written anew", anew, "somebody wrote the journal anew", heads[9])
+    with_lines("the end cut", lines[:-3], "its end was cut", heads[-1])
+    same("the command says so too", check(place, "--head", heads[-1])[0], 1)
+    place.write_bytes(b"".join(lines))
+    told = world.folder / "heads"
+    told.write_text((world.folder / "log").read_text() + "\n" + "\n".join(heads))
+    status, said = check(place, "--heads", str(told))
+    judge("with the heads of the service and of the answers", status == 0 and f"heads compared: {len(heads)}" in said,
+          said)
+
+
+def torn(world: World) -> None:
+    """What a stop in the middle of a line leaves is named by the next line."""
+    whole = world.journal.read_bytes()
+    for rest in (b'{"before":"00', b"x", b'{"before":"' + b"0" * 64 + b'","line":99'):
+        with world.journal.open("ab") as file:
+            file.write(rest)
+        world.start_gate()
+        line = stop_and_read(world, 1)
+        same(f"the next line tells of {len(rest)} bytes", line.get("torn"), chain.torn(rest))
+        same("the chain holds", check(world.journal)[0], 0)
+        data = world.journal.read_bytes()
+        place = world.folder / "forged/journal"
+        for other in (data.replace(rest + b"\n", rest + b"y\n", 1), data.replace(b"\n" + rest + b"\n", b"\n", 1)):
+            place.write_bytes(other)
+            same("what was left is changed", check(place)[0], 1 if other != data else 0)
+    # a line that lacks its end alone is a line
+    world.journal.write_bytes(whole[:-1])
+    world.start_gate()
+    line = stop_and_read(world, 1)
+    judge("a line without its end", "torn" not in line and check(world.journal)[0] == 0, line)
+
+
+def rotated(world: World) -> None:
+    """The chain goes on in a new file, also after a start, and after two rotations of one day."""
+    world.start_gate()
+    for name in ("journal-20260101", "journal-20260102"):
+        world.journal.rename(world.folder / name)
+        world.gate.send_signal(signal.SIGHUP)
+        for _ in range(200):
+            if world.journal.exists():
+                break
+            time.sleep(0.01)
+        same("an act after a rotation", world.act("legal", {"act": "lift-hold", "hold": "NONE"})[0], 409)
+        same("the chain holds", check(world.journal)[0], 0)
+    judge("the new file begins in the middle", json.loads(world.journal.read_bytes().split(b"\n")[0])["line"] > 20)
+    world.stop_gate()
+    world.journal.rename(world.folder / "journal-20260103")
+    world.start_gate()
+    world.stop_gate()
+    status, said = check(world.journal)
+    judge("the chain goes on from an older file", status == 0 and "from line 1," in said, said)
+    middle = world.folder / "journal-20260102"
+    data = middle.read_bytes()
+    middle.unlink()
+    judge("a file that is missing is found", check(world.journal)[0] == 1)
+    middle.write_bytes(data)
+    oldest = world.folder / "journal-20260101"
+    oldest.rename(world.folder / "put-away")
+    same("without the oldest one the others hold", check(world.journal)[0], 0)
+    (world.folder / "put-away").rename(oldest)
+
+
+def alone(world: World) -> None:
+    """One gate alone writes a journal."""
+    world.start_gate()
+    other = subprocess.run([*world.words()[:-4], "--socket", str(world.folder / "other")], capture_output=True,
+                           text=True,
+                           check=False, timeout=60)
+    judge("a second gate does not start", other.returncode == 3 and "another process writes" in other.stderr,
+          other.stderr)
+    same("the first one goes on", world.ask("auditor", "GET", "/records/1")[0], 200)
+
+
+def full(world: World) -> None:
+    """If the disk does not take a line, nothing is done; once it does, all goes on."""
+    before = sum(it["what"] == "asked" for it in world.lines())
+    room = world.journal.stat().st_size + 300
+    resource.prlimit(world.gate.pid, resource.RLIMIT_FSIZE, (room, resource.RLIM_INFINITY))
+    found = [world.act("legal", {"act": "place-hold", "code": f"FULL{it}", "reason": "r" * 100}) for it in range(4)]
+    same("acts while the disk is full", {(status, said["error"]) for status, said in found}, {(503, "journal")})
+    same("a reading", world.ask("auditor", "GET", "/records/1")[0], 503)
+    same("a monitor sees it", world.ask("monitor", "GET", "/alive")[0], 503)
+    resource.prlimit(world.gate.pid, resource.RLIMIT_FSIZE, (resource.RLIM_INFINITY, resource.RLIM_INFINITY))
+    status, said = world.act("legal", {"act": "place-hold", "code": "FULL0", "reason": "r"})
+    same("with room it goes on, and nothing was done before", (status, said), (200, [{"done": True}]))
+    same("a monitor sees that", world.ask("monitor", "GET", "/alive")[0], 200)
+    same("the chain holds", check(world.journal), (0, check(world.journal)[1]))
+    lines = whole_lines(world)
+    judge("only what was done was asked for", sum(it["what"] == "asked" for it in lines) == before + 1)
+    judge("a line tells what the disk did not take", any("torn" in it for it in lines))
+
+
+def readings(world: World) -> None:
+    """The journal has readings, or only those that were refused."""
+    count = len(whole_lines(world))
+    world.ask("auditor", "GET", "/records/1")
+    same("a reading is a line", [it["request"] for it in whole_lines(world)[count:]], ["GET /records/1"])
+    world.stop_gate()
+    world.settings.write_text("site https://localhost\nzone UTC\njournal acts\n" + SETTINGS)
+    world.start_gate()
+    count = len(whole_lines(world))
+    world.ask("auditor", "GET", "/records/1")
+    world.ask("auditor", "GET", "/records/1/content")
+    same("without readings only the refused one", [it["request"] for it in whole_lines(world)[count:]],
+         ["GET /records/1/content"])
+
+
+def whole_lines(world: World) -> list[dict]:
+    lines = world.journal.read_bytes().split(b"\n")
+    return [json.loads(it) for it in lines if it.startswith(b'{"before"') and it.endswith(b"}")]
+
+
+def stop_and_read(world: World, back: int) -> dict:
+    """Stops the gate, and returns the line that it wrote so many lines before its last one."""
+    world.stop_gate()
+    return whole_lines(world)[-1 - back]
+

@@ -1,0 +1,132 @@
+"""The gate behind nginx, with the site of the repository: names, what nginx has itself, and a client's tricks."""
+import base64
+import gzip
+import json
+import pathlib
+
+from gate_trial.base import SETTINGS, filing, plan
+from gate_trial.judging import judge, same
+from gate_trial.proxy import PASSWORD, Proxy
+from gate_trial.world import TOKEN, World, today
+
+NAMES = ["registry", "records-manager", "legal", "department", "auditor", "archive"]
+LIFT = [{"act": "lift-hold", "day": today(), "hold": "H"}]
+
+
+def tried(folder: pathlib.Path) -> None:
+    world = World(folder / "world", SETTINGS)
+    catalogue = folder / "catalogue"
+    catalogue.mkdir(parents=True)
+    (catalogue / "records.json.gz").write_bytes(gzip.compress(b'{"records":[]}'))
+    proxy = Proxy(folder / "nginx", "gated.conf", NAMES, world.place, world.port, catalogue)
+    world.settings.write_text(f"site {proxy.here}\nzone UTC\n" + SETTINGS)
+    world.start_office()
+    world.start_gate()
+    world.place.chmod(0o666)
+    proxy.start()
+    names(proxy, world)
+    own(proxy)
+    forged(proxy, world)
+    smuggled(proxy, world)
+    away(proxy, world)
+    judge("the chain holds", world.check().returncode == 0, world.check().stderr)
+    proxy.stop()
+    world.end()
+
+
+def names(proxy: Proxy, world: World) -> None:
+    """The gate knows who signed in, and from where."""
+    day = {"day": today()}
+    status, found = proxy.act("records-manager", [{**it, **day} for it in plan()])
+    same("the plan", status, 200)
+    status, found = proxy.act("legal", [{"act": "place-hold", "code": "H", "reason": "r", **day}],
+                              Office_Reason="court%20order")
+    same("a hold", (status, found), (200, [{"done": True}]))
+    line = world.last("asked")
+    same("the journal", (line["name"], line["from"], line["reason"], line["acts"][0]["by"]),
+         ("legal", "127.0.0.1", "court order", "legal"))
+    same("who may not lift", proxy.act("registry", LIFT), (403, {"error": "right", "act": "lift-hold", "place": 0}))
+    same("a wrong password", proxy.ask("legal", "POST", "/city/acts", b"[]", password="wrong")[0], 401)
+    same("a name of nobody", proxy.ask("nobody", "GET", "/city/records/1")[0], 401)
+    same("a reading", json.loads(proxy.ask("department", "GET", "/city/records/1")[1])["class"], "BLDG1")
+    same("a foreign record", proxy.ask("department", "GET", "/city/records/2"),
+         (403, b'{"error":"class","read":"records"}'))
+    same("rights", json.loads(proxy.ask("department", "GET", "/city/rights")[1])["by"], "department")
+    same("elsewhere", proxy.ask("legal", "POST", "/city/acts", b"[]", origin="https://evil.example"),
+         (403, b'{"error":"origin"}'))
+    same("a GET for a page from elsewhere", proxy.ask("legal", "GET", "/city/records/1", None,
+                                                      {"Sec-Fetch-Site": "cross-site"})[0], 403)
+    same("what nginx's own journal has", (proxy.folder / "log/acts.log").read_text(), "")
+
+
+def own(proxy: Proxy) -> None:
+    """What nginx has itself goes to those whom the gate lets have it."""
+    for name, status in (("auditor", 200), ("registry", 200), ("department", 403), ("archive", 403)):
+        found = proxy.ask(name, "GET", "/city/catalogue/records.json")
+        same(f"the catalogue for {name}", found[0], status)
+    same("what is in it", proxy.ask("auditor", "GET", "/city/catalogue/records.json")[1], b'{"records":[]}')
+    for path in ("/city/catalogue/../records/2", "/city/catalogue/records.json/../../records/2",
+                 "/city/catalogue/%2e%2e/may",
+                 "/city/catalogue/", "/city/catalogue/other.txt", "/city/may", "/city/catalogue//records.json"):
+        status, body = proxy.ask("department", "GET", path)
+        judge(f"department: {path}", status in (403, 404, 400), (status, body))
+    same("a monitor", proxy.ask("monitor", "GET", "/city/alive"), (200, b'{"records":true}'))
+    judge("its counts", b"office_gate_answers_total" in proxy.ask("monitor", "GET", "/city/metrics")[1])
+    same("nobody else's password", proxy.ask("auditor", "GET", "/city/metrics")[0], 401)
+    same("a monitor reads nothing else", proxy.ask("monitor", "GET", "/city/records/1")[0], 401)
+    same("the page without a password", proxy.ask("nobody", "GET", "/city/web/office.js", None,
+                                                  {"Authorization": ""})[0], 200)
+    same("opening it needs one", proxy.ask("nobody", "GET", "/city/web/")[0], 401)
+    # there is no vault here, so what passes comes to nobody
+    for name, verb, path, status in (("registry", "PUT", f"/city/vault/{'a' * 64}", 502),
+                                     ("department", "PUT", f"/city/vault/{'a' * 64}", 403),
+                                     ("department", "GET", "/city/records/1/files", 502),
+                                     ("department", "GET", "/city/records/2/files", 403),
+                                     ("auditor", "GET", "/city/records/1/files/1", 403)):
+        same(f"{verb} {path} of {name}", proxy.ask(name, verb, path, b"x" if verb == "PUT" else None)[0], status)
+
+
+def forged(proxy: Proxy, world: World) -> None:
+    """No line that a client sends says who it is."""
+    for name, value in (("Office-Name", "legal"), ("office-name", "legal"), ("Office_Name", "legal"),
+                        ("Office-Token", TOKEN),
+                        ("Office-From", "10.0.0.1"), ("Office-Method", "PUT"), ("Office-Path", "/x"),
+                        ("X-Forwarded-User", "legal")):
+        same(f"{name} of a client", proxy.act("registry", LIFT, **{name: value})[0], 403)
+        same(f"{name}: who it was", (world.last("refused")["name"], world.last("refused")["from"]),
+             ("registry", "127.0.0.1"))
+    for reason in ("a%0d%0aOffice-Name:%20legal", "%00", "x" * 600):
+        same(f"a reason {reason[:12]}", proxy.act("registry", LIFT, Office_Reason=reason)[0], 400)
+
+
+def smuggled(proxy: Proxy, world: World) -> None:
+    """Of two requests in one nothing but the first one, as nginx reads it, comes to the gate."""
+    auth = base64.b64encode(f"registry:{PASSWORD}".encode()).decode()
+    head = f"Host: localhost:{proxy.port}\r\nAuthorization: Basic {auth}\r\nOrigin: {proxy.here}\r\n"
+    body = json.dumps(LIFT).encode()
+    before = len(world.lines())
+    for lines in ("Content-Length: 4\r\nTransfer-Encoding: chunked", "Transfer-Encoding: chunked\r\nContent-Length: 4",
+                  "Content-Length: 4\r\nContent-Length: 60", "Content-Length: 0\r\nContent-Length : 60",
+                  "Transfer-Encoding : chunked", "Transfer-Encoding: xchunked", "Content-Length: +60"):
+        data = f"POST /city/acts HTTP/1.1\r\n{head}{lines}\r\n\r\n".encode() + b"0\r\n\r\n" + body
+        status, found = proxy.raw(data)
+        judge(f"{lines!r}", status in (400, 403, 411, 501, 0), (status, found))
+    chunks = b"%x\r\n%s\r\n0\r\n\r\n" % (len(body), body)
+    status, found = proxy.raw(f"POST /city/acts HTTP/1.1\r\n{head}Transfer-Encoding: chunked\r\n\r\n".encode() + chunks)
+    same("chunks, which nginx reads whole", (status, world.last("refused")["acts"]), (403, LIFT))
+    judge("nobody but registry did any of this", {it["name"] for it in world.lines()[before:]} <= {"registry", ""},
+          world.lines()[before:])
+    judge("and nothing was sent", all(it["what"] != "asked" for it in world.lines()[before:]))
+
+
+def away(proxy: Proxy, world: World) -> None:
+    """A long list of acts, and a gate that is away."""
+    many = [{**filing(it, 1), "day": today()} for it in range(100, 400)]
+    status, found = proxy.act("registry", many)
+    judge("300 acts", status == 200 and len(found) == 300, (status, str(found)[:100]))
+    same("too long a body", proxy.ask("registry", "POST", "/city/acts", b"[" + b" " * (1 << 20) + b"]")[0], 413)
+    world.stop_gate()
+    same("without a gate nothing passes", proxy.ask("legal", "GET", "/city/records/1"), (502, b'{"error":"office"}'))
+    judge("not even what nginx has", proxy.ask("auditor", "GET", "/city/catalogue/records.json")[0] >= 500)
+    world.start_gate()
+    world.place.chmod(0o666)

@@ -1,0 +1,103 @@
+"""The file of settings: what is wrong is named with its line, and a change takes effect without a lost request."""
+import json
+import pathlib
+import signal
+import subprocess
+import threading
+import time
+
+from gate_trial.base import CITY, SETTINGS, made
+from gate_trial.judging import judge, same
+from gate_trial.world import GATE, PYTHON, World
+
+WRONG = ["role a may confrim", "role a may", "role A may confirm", "role a reads everything",
+         "role a may confirm in B_1",
+         "role a may confirm in", "role a reads records if here", "role a may confirm if sent", "role a can confirm",
+         "role a may confirm in ABCDEFGHIJKLMNOPQ", "name x is nobody-said", "name x is", "name x y is registry",
+         "name x/y is registry", "name registry signs " + "t" * 201, "rule", "rule four-eyes",
+         "rule changer-does-not-open",
+         "rule changer-does-not-open 0", "rule changer-does-not-open ten", "rule reason-for", "rule reason-for lifting",
+         "rule confirmer-does-not-open 3", "limit requests 0", "limit requests", "limit lists 1000", "limit all 3",
+         "keep contents", "keep contents -1", "keep journals 3", "journal", "journal all", "zone Europe/Nowhere",
+         "zone UTC",
+         "site https://localhost", "site localhost", "site https://localhost/city/", "grant x y",
+         "name * signs everybody",
+         "zone ../../etc/passwd", "name registry signs \x1b[1m", "role a may confirm in *x"]
+MISSING = [("zone UTC\n", "site"), ("site https://localhost\n", "zone")]
+
+
+def tried(folder: pathlib.Path) -> None:
+    folder.mkdir(parents=True)
+    place = folder / "city.access"
+    same("the file that is shipped", checked(place, CITY)[0], 0)
+    for line in WRONG:
+        head = "zone UTC\nsite https://localhost\n" + SETTINGS
+        status, said = checked(place, f"{head}\n# a remark\n{line}\n")
+        at = head.count("\n") + 3
+        judge(f"{line!r}: status 2, and its line", status == 2 and f"{place}:{at}: " in said, said)
+    for text, word in MISSING:
+        status, said = checked(place, text)
+        judge(f"without {word}", status == 2 and f"'{word}'" in said, said)
+    status, said = checked(place, "zone UTC\nsite https://localhost\nname x signs somebody\n")
+    judge("who signs has a role", status == 2 and "'x'" in said, said)
+    place.write_bytes(b"zone UTC\nsite https://localhost\n# \xff\n")
+    judge("no UTF-8", f"{place}:3: " in run("check", str(place))[1])
+    judge("a file that is not there", run("check", str(folder / "none"))[0] == 2)
+    world = made(folder / "w")
+    printed(world)
+    changed(world)
+    world.end()
+
+
+def run(*words: str) -> tuple[int, str]:
+    done = subprocess.run([PYTHON, "-I", GATE, *words], capture_output=True, text=True, check=False)
+    return done.returncode, done.stdout + done.stderr
+
+
+def checked(place: pathlib.Path, text: str) -> tuple[int, str]:
+    place.write_text(text)
+    return run("check", str(place))
+
+
+def printed(world: World) -> None:
+    """What `rights` prints is what the gate answers."""
+    for name in ("registry", "department", "archive", "somebody"):
+        _, text = run("rights", str(world.settings), name)
+        words = [it.split(" in ")[0].split(" if ")[0] for it in text.splitlines()[1:]]
+        _, said = world.get(name, "/rights")
+        same(f"rights of {name}", sorted(words), sorted([*said["may"], *(f"read {it}" for it in said["reads"])]))
+
+
+def changed(world: World) -> None:
+    """Rights change while requests come; none of them is lost, and a wrong file changes nothing."""
+    found: list[int] = []
+    stop = threading.Event()
+
+    def ask() -> None:
+        while not stop.is_set():
+            found.append(world.ask("nobody", "GET", "/records/1")[0])
+
+    threads = [threading.Thread(target=ask) for _ in range(4)]
+    for it in threads:
+        it.start()
+    for at in range(6):
+        world.reload(SETTINGS + ("name nobody is auditor\n" if at % 2 == 0 else ""))
+        status = world.ask("nobody", "GET", "/records/1")[0]
+        same(f"change {at} counts", status, 200 if at % 2 == 0 else 403)
+    stop.set()
+    for it in threads:
+        it.join()
+    judge("each request was answered", set(found) == {200, 403}, set(found))
+    world.settings.write_text("rule nothing\n")
+    count = len(world.lines())
+    world.gate.send_signal(signal.SIGHUP)
+    time.sleep(0.5)
+    same("with a wrong file all stays", world.ask("registry", "GET", "/records/1")[0], 200)
+    judge("the journal says nothing of it", all(it["what"] != "settings" for it in world.lines()[count:]))
+    judge("but the service does, with its line", f"{world.settings}:1: " in (world.folder / "log").read_text())
+    world.settings.write_text("site https://localhost\nzone UTC\n" + SETTINGS)
+    sums = [it["sha256"] for it in world.lines() if it["what"] == "settings"]
+    same("the journal has the SHA-256 of each", len(set(sums)), 2)
+    same("a name that no line names", json.loads(world.ask("somebody", "GET", "/rights")[1])["acts"], False)
+    world.reload(SETTINGS + "name * is auditor\n")
+    same("a line for all other names", world.ask("somebody", "GET", "/records/1")[0], 200)

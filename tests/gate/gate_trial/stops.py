@@ -1,0 +1,146 @@
+"""A stop and a start that nobody sees: of the office behind the gate, and of the gate itself, as systemd does both."""
+import json
+import os
+import pathlib
+import signal
+import socket
+import threading
+import time
+
+from gate_trial.base import SETTINGS, plan
+from gate_trial.judging import judge, same
+from gate_trial.world import World
+
+ROUNDS = 5
+
+
+def tried(folder: pathlib.Path) -> None:
+    world = World(folder, SETTINGS)
+    notes = Notes(world)
+    world.listen()
+    world.start_office()
+    world.start_gate()
+    judge("systemd is told that it is ready", notes.has(b"READY=1"))
+    same("the plan", world.act("records-manager", *plan())[0], 200)
+    judge("the watchdog hears from it", notes.has(b"WATCHDOG=1", 10))
+    of_the_office(world)
+    cut(world)
+    of_the_gate(world)
+    same("systemd is told of the end", (world.stop_gate(), notes.has(b"STOPPING=1", ROUNDS + 2)), (0, True))
+    judge("the chain holds", world.check().returncode == 0, world.check().stderr)
+    world.end()
+
+
+class Notes:
+    """What systemd would be told."""
+
+    def __init__(self, world: World) -> None:
+        self.link = socket.socket(socket.AF_UNIX, socket.SOCK_DGRAM)
+        self.link.bind(str(world.folder / "notify"))
+        world.more = {"NOTIFY_SOCKET": str(world.folder / "notify"), "WATCHDOG_USEC": "400000"}
+        self.seen: list[bytes] = []
+        threading.Thread(target=self.read, daemon=True).start()
+
+    def read(self) -> None:
+        while True:
+            self.seen.append(self.link.recv(4096))
+
+    def has(self, word: bytes, count: int = 1) -> bool:
+        """Whether something is told so often within some seconds."""
+        for _ in range(1000):
+            if sum(word in it for it in self.seen) >= count:
+                return True
+            time.sleep(0.02)
+        return False
+
+
+class Clients:
+    """Clients that read and act, one request after another, until they are stopped."""
+
+    def __init__(self, world: World, count: int = 4) -> None:
+        self.world, self.stop = world, threading.Event()
+        self.found: list[tuple[int, object]] = []
+        self.threads = [threading.Thread(target=self.run, args=(it,)) for it in range(count)]
+        for it in self.threads:
+            it.start()
+
+    def run(self, at: int) -> None:
+        number = 0
+        while not self.stop.is_set():
+            number += 1
+            code = f"{at}-{os.getpid() % 1000}-{number}-{int(time.time()) % 100000}"[:16]
+            what = self.world.act("legal", {"act": "place-hold", "code": code, "reason": "r"}) if number % 2 else \
+                self.world.get("auditor", "/records/1")
+            self.found.append(what)
+
+    def end(self) -> list[tuple[int, object]]:
+        self.stop.set()
+        for it in self.threads:
+            it.join()
+        return self.found
+
+
+def of_the_office(world: World) -> None:
+    """Requests wait while the office is away. What was under way as it was killed is unknown, and nobody says else."""
+    clients = Clients(world)
+    for _ in range(ROUNDS):
+        time.sleep(0.3)
+        world.stop_office()
+        time.sleep(0.3)
+        world.start_office()
+    time.sleep(0.5)
+    found = clients.end()
+    statuses = [status for status, _ in found]
+    judge("each request has an answer", set(statuses) <= {200, 409, 502}, set(statuses))
+    # one that the office had, and one that it was about to take as it ended
+    judge("two at most were lost at each kill", statuses.count(502) <= 2 * ROUNDS, statuses.count(502))
+    judge("its answer says so", all(said == {"error": "unknown"} for status, said in found if status == 502))
+    unknown = [it for it in world.lines() if it["what"] == "answered" and it.get("known") is False]
+    same("the journal says so too", len(unknown), statuses.count(502))
+    judge("most of them were done", statuses.count(200) > len(statuses) // 2, len(statuses))
+
+
+def cut(world: World) -> None:
+    """An office that is not there while an act comes: it is done once, as the office is there."""
+    world.stop_office()
+    found: list = []
+    one = threading.Thread(target=lambda: found.append(world.act("legal",
+                                                                 {"act": "place-hold", "code": "ONCE", "reason": "r"})))
+    one.start()
+    time.sleep(1)
+    same("it waits", found, [])
+    world.start_office()
+    one.join()
+    same("and is done", found, [(200, [{"done": True}])])
+    same("once", world.act("legal", {"act": "place-hold", "code": "ONCE", "reason": "r"})[1], [{"refused": 4}])
+
+
+def of_the_gate(world: World) -> None:
+    """While the gate stops and starts nobody is refused: what comes waits at the socket."""
+    clients = Clients(world)
+    for _ in range(ROUNDS):
+        time.sleep(0.3)
+        same("it ends well", world.stop_gate(), 0)
+        world.start_gate()
+    time.sleep(0.5)
+    found = clients.end()
+    statuses = [status for status, _ in found]
+    same("each request was done", set(statuses), {200})
+    judge("there were some", len(statuses) > 10, len(statuses))
+    # an act that is under way as the end is asked for is done, and answered
+    world.office.send_signal(signal.SIGSTOP)
+    answers: list = []
+    last = {"act": "place-hold", "code": "LAST", "reason": "r"}
+    one = threading.Thread(target=lambda: answers.append(world.act("legal", last)))
+    one.start()
+    time.sleep(0.5)
+    world.gate.send_signal(signal.SIGTERM)
+    time.sleep(0.5)
+    world.office.send_signal(signal.SIGCONT)
+    one.join()
+    world.gate.wait()
+    world.gate.stdout.close()
+    same("what was under way is answered", answers, [(200, [{"done": True}])])
+    same("and is in the journal", [json.loads(it)["what"] for it in world.journal.read_bytes().splitlines()[-2:]],
+         ["answered", "closed"])
+    world.start_gate()

@@ -1,0 +1,189 @@
+"""An office and a gate for the trial: the real program, served, and the gate at a socket of its own."""
+import http.client
+import json
+import os
+import pathlib
+import signal
+import socket
+import subprocess
+import time
+
+TOP = pathlib.Path(__file__).resolve().parents[3]
+OFFICE = os.environ.get("OFFICE") or str(TOP / "out/office")
+GATE = TOP / "service/gate/office-gate"
+JOURNAL = TOP / "service/gate/office-journal"
+PYTHON = "/usr/bin/python3"
+TOKEN = "0123456789abcdef" * 4
+HERE = {"Host": "localhost", "Origin": "https://localhost"}
+SITE = "site https://localhost\nzone {zone}\n"
+
+
+def today(days: int = 0) -> str:
+    return time.strftime("%Y-%m-%d", time.gmtime(time.time() + 86400 * days))
+
+
+def free_port() -> int:
+    with socket.create_server(("127.0.0.1", 0)) as it:
+        return it.getsockname()[1]
+
+
+class World:
+    """One office behind one gate, in a folder."""
+
+    def __init__(self, folder: pathlib.Path, settings: str) -> None:
+        self.folder = folder
+        folder.mkdir(parents=True)
+        self.file, self.settings = folder / "office.db", folder / "access"
+        self.place, self.journal, self.state = folder / "socket", folder / "journal", folder / "state"
+        self.catalogue = folder / "catalogue"
+        self.state.mkdir()
+        (folder / "token").write_text(TOKEN)
+        self.settings.write_text(SITE.format(zone="UTC") + settings)
+        self.port = free_port()
+        self.listener: socket.socket | None = None
+        self.more: dict[str, str] = {}
+        self.office: subprocess.Popen | None = None
+        self.gate: subprocess.Popen | None = None
+        self.log = (folder / "log").open("wb")
+
+    # ---- processes
+
+    def start_office(self) -> None:
+        self.office = subprocess.Popen([OFFICE, "serve", str(self.file), str(self.port), "1000000"],
+                                       stdout=subprocess.PIPE, stderr=self.log)
+        assert self.office.stdout.readline().startswith(b"listening")
+
+    def stop_office(self) -> None:
+        """Ends the program by SIGKILL: what was answered is in FILE and its log."""
+        if self.office:
+            self.office.kill()
+            self.office.wait()
+            self.office.stdout.close()
+            self.office = None
+
+    def words(self) -> list[str]:
+        words = [PYTHON, "-I", GATE, "serve", "--settings", self.settings, "--office", f"127.0.0.1:{self.port}",
+                 "--journal", self.journal,
+                 "--state", self.state, "--token", self.folder / "token", "--socket", self.place,
+                 "--catalogue", self.catalogue]
+        return list(map(str, words))
+
+    def start_gate(self) -> None:
+        self.gate = subprocess.Popen(self.words(), stdout=subprocess.PIPE, stderr=self.log,
+                                     env=os.environ | self.more, close_fds=self.listener is None,
+                                     preexec_fn=self.as_systemd if self.listener else None)
+        assert self.gate.stdout.readline().startswith(b"listening"), (self.folder / "log").read_text()
+
+    def listen(self) -> None:
+        """Listens in the place of systemd: a gate gets the socket at its start, and leaves it at its end."""
+        self.listener = socket.socket(socket.AF_UNIX, socket.SOCK_STREAM)
+        self.listener.bind(str(self.place))
+        self.listener.listen(4096)
+
+    def as_systemd(self) -> None:
+        """Passes the socket on, in the process that becomes the gate."""
+        os.dup2(self.listener.fileno(), 3)
+        os.execve(PYTHON, self.words(), os.environ | self.more | {"LISTEN_PID": str(os.getpid()), "LISTEN_FDS": "1"})
+
+    def stop_gate(self, number: signal.Signals = signal.SIGTERM) -> int:
+        assert self.gate is not None
+        self.gate.send_signal(number)
+        status = self.gate.wait()
+        self.gate.stdout.close()
+        self.gate = None
+        return status
+
+    def reload(self, settings: str, zone: str = "UTC") -> None:
+        """Gives the gate other settings, and waits until they count."""
+        self.settings.write_text(SITE.format(zone=zone) + settings)
+        count = len(self.lines())
+        self.gate.send_signal(signal.SIGHUP)
+        for _ in range(200):
+            if any(it["what"] == "settings" for it in self.lines()[count:]):
+                return
+            time.sleep(0.01)
+        raise AssertionError("the settings were not taken")
+
+    def end(self) -> None:
+        if self.gate:
+            self.stop_gate()
+        self.stop_office()
+        self.log.close()
+
+    # ---- requests
+
+    def raw(self, data: bytes, half: bool = False) -> bytes:
+        """Sends bytes to the gate, and returns all that come back."""
+        with socket.socket(socket.AF_UNIX, socket.SOCK_STREAM) as link:
+            link.settimeout(300)
+            link.connect(str(self.place))
+            link.sendall(data)
+            if half:
+                link.shutdown(socket.SHUT_WR)
+            found = b""
+            try:
+                while block := link.recv(1 << 20):
+                    found += block
+            except ConnectionError:
+                pass
+            return found
+
+    def ask(self, name: str, method: str, path: str, body: bytes | None = None,
+            lines: dict[str, str] | None = None) -> tuple[int, bytes]:
+        """Asks as nginx does for a name that signed in."""
+        head = {**HERE, "Office-Token": TOKEN, "Office-Name": name, "Office-From": "192.0.2.7", **(lines or {})}
+        if body is not None:
+            head["Content-Length"] = str(len(body))
+        text = "".join(f"{key}: {value}\r\n" for key, value in head.items())
+        found = self.raw(f"{method} {path} HTTP/1.1\r\n{text}\r\n".encode() + (body or b""))
+        return parted(found)
+
+    def get(self, name: str, path: str) -> tuple[int, object]:
+        status, body = self.ask(name, "GET", path)
+        return status, said(body)
+
+    def act(self, name: str, *acts: object, **lines: str) -> tuple[int, object]:
+        """Sends acts; each has today as its day if it has none."""
+        given = [{"day": today(), **it} if isinstance(it, dict) and it.get("act") != "run-step" else it for it in acts]
+        more = {it.replace("_", "-"): value for it, value in lines.items()}
+        status, body = self.ask(name, "POST", "/acts", json.dumps(given).encode(), more)
+        return status, said(body)
+
+    def text(self, name: str, body: str | bytes) -> tuple[int, object]:
+        """Sends a body as it is written."""
+        status, found = self.ask(name, "POST", "/acts", body if isinstance(body, bytes) else body.encode())
+        return status, said(found)
+
+    def direct(self, method: str, path: str, body: bytes | None = None) -> tuple[int, bytes]:
+        """Asks the office past the gate."""
+        it = http.client.HTTPConnection("127.0.0.1", self.port, timeout=60)
+        it.request(method, path, body)
+        answer = it.getresponse()
+        found = answer.status, answer.read()
+        it.close()
+        return found
+
+    # ---- the journal
+
+    def lines(self) -> list[dict]:
+        return [json.loads(it) for it in self.journal.read_bytes().split(b"\n") if it]
+
+    def last(self, what: str) -> dict:
+        return next(it for it in reversed(self.lines()) if it["what"] == what)
+
+    def check(self) -> subprocess.CompletedProcess:
+        return subprocess.run([PYTHON, "-I", JOURNAL, "check", self.journal], capture_output=True, text=True,
+                              check=False)
+
+
+def parted(found: bytes) -> tuple[int, bytes]:
+    head, _, body = found.partition(b"\r\n\r\n")
+    words = head.split(b" ", 2)
+    return int(words[1]) if len(words) > 1 and words[1].isdigit() else 0, body
+
+
+def said(body: bytes) -> object:
+    try:
+        return json.loads(body)
+    except ValueError:
+        return body

@@ -1,0 +1,53 @@
+"""What is synced, and when: the office syncs nothing, and FILE is on the disk before the disk says that it is settled."""
+from __future__ import annotations
+
+import pathlib
+import re
+import signal
+import subprocess
+import time
+
+from replica_trials.cluster import Cluster
+from replica_trials.judging import judge
+from replica_trials.posting import begun, posted, record
+from replica_trials.verdict import same_rows
+
+IDLE_SECONDS = 4
+"""a member settles after one without entries"""
+NAMES = {"memo.db-wal": "memo", "office.db-wal": "log", "office.db": "FILE", "work": "folder"}
+
+
+def syncs(text: str) -> list[str]:
+    """What a trace has of syncs, in order, each file by a word."""
+    paths = re.findall(r"\b(?:fsync|fdatasync)\(\d+<([^>]+)>\) *= 0", text)
+    return [NAMES.get(pathlib.Path(it).name, it) for it in paths]
+
+
+def traced(cluster: Cluster, machine: int, number: int) -> list[str]:
+    """The syncs of a member while it does some entries, and then none for a while."""
+    file = cluster.folder / "trace"
+    process = cluster.processes[f"member{machine}"].pid
+    tracer = subprocess.Popen(["strace", "-f", "-y", "-e", "trace=fsync,fdatasync", "-o", str(file), "-p", str(process)],
+                              stderr=subprocess.DEVNULL)
+    time.sleep(2)
+    for it in range(5):
+        posted(cluster, machine, [record(number + it)])
+    time.sleep(IDLE_SECONDS)
+    tracer.send_signal(signal.SIGINT)
+    tracer.wait(30)
+    return syncs(file.read_text(errors="replace"))
+
+
+def synced(cluster: Cluster) -> None:
+    """A member that does entries after a pause, and pauses again."""
+    begun(cluster)
+    time.sleep(IDLE_SECONDS)
+    found = traced(cluster, 0, 10)
+    settled = ["log", "FILE", "folder", "memo"]
+    judge("syncs: the disk has that FILE is not settled before the first entry", found[:1] == ["memo"], found)
+    judge("syncs: and FILE, its log and their folder before it has that it is settled again",
+          found[1:] in ([*settled], [*settled, "memo", *settled], settled[1:]), found)
+    office = cluster.office_process(0)
+    status = pathlib.Path(f"/proc/{office}/status").read_text()
+    judge("syncs: the office has the filter by which it syncs nothing", "\nSeccomp:\t2\n" in status, status)
+    same_rows(cluster, "syncs")
