@@ -193,6 +193,7 @@ def found_on_hold(town: Town) -> None:
 
 def class_on_hold(town: Town) -> None:
     town.open("holds")
+    town.it.choose("#hold-place-kind", "class")
     for name, value in (("code", "LAW-2"), ("reason", "A suit"), ("by", "Legal office"), ("target", "LEASES")):
         town.it.write(f"hold_place_{name}", value)
     town.it.press("#hold-place button:not([type])")
