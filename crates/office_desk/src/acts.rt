@@ -2,6 +2,7 @@
 ghost use Rattle.std.specs.Prelude.{◌≡◌, Err, IsTrue, MatchResult, [], ◌∷◌, ◌++◌, false};
 ghost use Rattle.sqlite.specs.Held.{state};
 ghost use Rattle.office_rules.specs.Acts.{CanBeMade};
+ghost use Rattle.office_rules.specs.Forms.{IsWellFormedAct};
 ghost use Rattle.office_rules.specs.State.{State};
 ghost use Rattle.office_desk.specs.Headline.{AreWellFormed};
 ghost use Rattle.office_desk.specs.Calling.{Called, EndAct, EndActs, EndChange, IsPoisoned, IsMade};
@@ -14,7 +15,8 @@ use office_rules::{Act, Answer, Change, Decision};
 use office_store::Fault;
 use sqlite::Alter;
 
-/// Gives proofs the fact that each act is of its form; a call does nothing.
+/// Gives proofs the fact that each act is of its form, also those that a fault leaves undecided; a
+/// call does nothing.
 fn well_formed_all(acts: &[Act])
     ensures { AreWellFormed acts.now }
 {
@@ -27,15 +29,13 @@ impl<S: Alter> Desk<S> {
     /// One act, by a desk that is open. Its answer comes once its commit is done.
     pub(crate) fn perform_one(&mut self, act: &Act) -> Result<Answer, Fault>
         requires open { self.old.is_poisoned ≡ false }
-        ensures { Called S.Store self.old self.new
+        ensures formed { IsWellFormedAct act.now }
+        ensures called { Called S.Store self.old self.new
             (λ s At. EndAct S.Store s act.now result self.old self.new At) }
     {
         match self.machine.decide(act) {
             Ok(Decision::Stay(answer)) => Ok(answer),
-            Ok(Decision::Go(change)) => {
-                act.formed();
-                self.make(change)
-            }
+            Ok(Decision::Go(change)) => self.make(change),
             Err(_) => Err(Fault::Memory),
         }
     }
@@ -129,7 +129,6 @@ impl<S: Alter> Desk<S> {
         if self.is_poisoned {
             return Err(Fault::Reopen);
         }
-        act.formed();
         self.perform_one(act)
     }
 

@@ -4,6 +4,7 @@ ghost use Rattle.std.specs.FinMap.{get};
 ghost use Rattle.std.specs.Option.{option_map};
 ghost use Rattle.std.specs.String.{string_bytes};
 ghost use Rattle.office_rules.specs.Acts.{CanBeMade, IsDecidedFor, IsFeasible, KeepsHeld, ReportsItsKind, may_release};
+ghost use Rattle.office_rules.specs.Forms.{IsWellFormedAct};
 ghost use Rattle.office_rules.specs.Readings.{IsDueList, IsOverdueList, all_entries_of, ending_entry, record_view};
 ghost use Rattle.office_rules.specs.Registers.{AreDueRows, AreOverdueRows, entry_rows};
 ghost use Rattle.office_rules.specs.Runs.{looked_at, next_in_run};
@@ -66,6 +67,7 @@ impl Machine {
     /// the change that is to be made. The office stays as it is, and the contents of records are
     /// not asked for. `Memory` where there is none for the change.
     pub fn decide(&self, act: &Act) -> Result<Decision, Memory>
+        ensures formed { IsWellFormedAct act.now }
         ensures step { IfOk result (λ d. IsDecidedFor self.now act.now d) }
         ensures reported { IfOk result ReportsItsKind }
         ensures feasible { IfOk result (λ d. IsFeasible self.now d) }

@@ -8,8 +8,8 @@ use Rattle.office_desk.proofs.desk.Desk.perform_one.Goals as goal
 office_of : {S : Type 0} {d e : DeskState S} → d ≡ e → d.office ≡ e.office
 office_of same = ap (λ d. d.office) same
 
-pub returns-in-Ok-Stay : goal.returns-in-Ok-Stay
-returns-in-Ok-Stay g c =
+pub returns-in-Ok-Stay-clause-called : goal.returns-in-Ok-Stay-clause-called
+returns-in-Ok-Stay-clause-called g c =
     let decided = rw c.in-Ok-Stay.field-0-is at c.in-Ok-Stay.ensures.step in
     record {
       clean = λ clean. clean;
@@ -19,13 +19,13 @@ returns-in-Ok-Stay g c =
       rest = λ s clean at. rest_here g.S.Store s c.args.self.now at;
     }
 
-pub returns-in-Ok-Go : goal.returns-in-Ok-Go
-returns-in-Ok-Go g c =
+pub returns-in-Ok-Go-clause-called : goal.returns-in-Ok-Go-clause-called
+returns-in-Ok-Go-clause-called g c =
     let decided = rw c.in-Ok-Go.field-0-is at c.in-Ok-Go.ensures.step in
     record {
       clean = c.make.ensures.clean;
       did = λ s is_open same.
           let by = go_step s c.self.inside.machine c.args.act.now c.in-Ok-Go.change (same ∙ sym (office_of c.self.view_is)) decided in
-          done_saved g.S.Store c.make.result s c.args.act.now c.in-Ok-Go.change c.args.self.now c.make.new.self same c.formed.ensures by _ (λ at. at.1) (c.make.ensures.did s is_open same) is_open;
+          done_saved g.S.Store c.make.result s c.args.act.now c.in-Ok-Go.change c.args.self.now c.make.new.self same c.in-Ok-Go.ensures.formed by _ (λ at. at.1) (c.make.ensures.did s is_open same) is_open;
       rest = c.make.ensures.rest;
     }
