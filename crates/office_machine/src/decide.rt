@@ -1,6 +1,6 @@
 //! What is decided of each kind of act.
 ghost use Rattle.std.specs.Prelude.{IfOk};
-ghost use Rattle.office_rules.specs.Acts.{IsDecidedTo, IsOnAggregations, IsOnHolds, IsOnNewRecord, IsOnRecords, IsOnRuns, IsOnSchedules, step};
+ghost use Rattle.office_rules.specs.Acts.{IsDecidedTo, step};
 ghost use Rattle.office_rules.specs.Sound.{IsSoundOffice};
 ghost use Rattle.office_rules.specs.State.{with_contents};
 
@@ -13,38 +13,9 @@ use std::alloc::Global;
 
 impl Parts {
     /// What is decided of an act.
+    #[tactic(auto, unfolding(office_rules::specs::Acts::step))]
     pub(crate) fn decide(&self, alloc: Global, act: &Act) -> Result<Decision, Memory>
         requires { IsSoundOffice self.now }
-        ensures { IfOk result
-            (λ d. IsDecidedTo self.now (λ contents. step (with_contents self.now contents) act.now)
-            d) }
-    {
-        match act {
-            Act::AddSchedule { .. } | Act::AddClass { .. } | Act::SetClassSchedule { .. } => {
-                self.decide_on_schedules(alloc, act)
-            }
-            Act::AddAggregation { .. } | Act::CloseAggregation { .. } | Act::Reclassify { .. } => {
-                self.decide_on_aggregations(alloc, act)
-            }
-            Act::AddRecord { .. } => self.decide_on_new_record(alloc, act),
-            Act::SetRecordSchedule { .. }
-            | Act::Confirm { .. }
-            | Act::Review { .. }
-            | Act::Receipt { .. }
-            | Act::Event { .. } => self.decide_on_records(alloc, act),
-            Act::PlaceHold { .. }
-            | Act::HoldOn { .. }
-            | Act::HoldOff { .. }
-            | Act::LiftHold { .. } => self.decide_on_holds(alloc, act),
-            Act::OpenRun { .. } | Act::RunStep => self.decide_on_runs(alloc, act),
-        }
-    }
-
-    /// What is decided of an act on schedules and classes.
-    #[tactic(auto, unfolding(office_rules::specs::Acts::step))]
-    fn decide_on_schedules(&self, alloc: Global, act: &Act) -> Result<Decision, Memory>
-        requires sound { IsSoundOffice self.now }
-        requires kind { IsOnSchedules act.now }
         ensures { IfOk result
             (λ d. IsDecidedTo self.now (λ contents. step (with_contents self.now contents) act.now)
             d) }
@@ -77,20 +48,6 @@ impl Parts {
                 class,
                 schedule,
             } => self.decide_set_class_schedule(alloc, *day, class, schedule),
-            _ => unreachable!(),
-        }
-    }
-
-    /// What is decided of an act on aggregations, or of an own class of one or of a record.
-    #[tactic(auto, unfolding(office_rules::specs::Acts::step))]
-    fn decide_on_aggregations(&self, alloc: Global, act: &Act) -> Result<Decision, Memory>
-        requires sound { IsSoundOffice self.now }
-        requires kind { IsOnAggregations act.now }
-        ensures { IfOk result
-            (λ d. IsDecidedTo self.now (λ contents. step (with_contents self.now contents) act.now)
-            d) }
-    {
-        match act {
             Act::AddAggregation {
                 day,
                 ref_text,
@@ -106,20 +63,6 @@ impl Parts {
             Act::Reclassify { day, target, class } => {
                 self.decide_reclassify(alloc, *day, *target, class.as_ref())
             }
-            _ => unreachable!(),
-        }
-    }
-
-    /// What is decided of an act that adds a record.
-    #[tactic(auto, unfolding(office_rules::specs::Acts::step))]
-    fn decide_on_new_record(&self, alloc: Global, act: &Act) -> Result<Decision, Memory>
-        requires sound { IsSoundOffice self.now }
-        requires kind { IsOnNewRecord act.now }
-        ensures { IfOk result
-            (λ d. IsDecidedTo self.now (λ contents. step (with_contents self.now contents) act.now)
-            d) }
-    {
-        match act {
             Act::AddRecord {
                 day,
                 ref_text,
@@ -141,20 +84,6 @@ impl Parts {
                 };
                 self.decide_add_record(alloc, *day, &new)
             }
-            _ => unreachable!(),
-        }
-    }
-
-    /// What is decided of a record's own schedule, confirmation, review, receipt or event.
-    #[tactic(auto, unfolding(office_rules::specs::Acts::step))]
-    fn decide_on_records(&self, alloc: Global, act: &Act) -> Result<Decision, Memory>
-        requires sound { IsSoundOffice self.now }
-        requires kind { IsOnRecords act.now }
-        ensures { IfOk result
-            (λ d. IsDecidedTo self.now (λ contents. step (with_contents self.now contents) act.now)
-            d) }
-    {
-        match act {
             Act::SetRecordSchedule {
                 day,
                 record_no,
@@ -184,20 +113,6 @@ impl Parts {
                 occurred,
                 by,
             } => self.decide_event(alloc, *day, *record_no, *occurred, by),
-            _ => unreachable!(),
-        }
-    }
-
-    /// What is decided of an act on holds.
-    #[tactic(auto, unfolding(office_rules::specs::Acts::step))]
-    fn decide_on_holds(&self, alloc: Global, act: &Act) -> Result<Decision, Memory>
-        requires sound { IsSoundOffice self.now }
-        requires kind { IsOnHolds act.now }
-        ensures { IfOk result
-            (λ d. IsDecidedTo self.now (λ contents. step (with_contents self.now contents) act.now)
-            d) }
-    {
-        match act {
             Act::PlaceHold {
                 day,
                 code,
@@ -207,23 +122,8 @@ impl Parts {
             Act::HoldOn { day, hold, target } => self.decide_hold_on(alloc, *day, hold, target),
             Act::HoldOff { day, hold, target } => self.decide_hold_off(alloc, *day, hold, target),
             Act::LiftHold { day, hold } => self.decide_lift_hold(alloc, *day, hold),
-            _ => unreachable!(),
-        }
-    }
-
-    /// What is decided of an act on runs.
-    #[tactic(auto, unfolding(office_rules::specs::Acts::step))]
-    fn decide_on_runs(&self, alloc: Global, act: &Act) -> Result<Decision, Memory>
-        requires sound { IsSoundOffice self.now }
-        requires kind { IsOnRuns act.now }
-        ensures { IfOk result
-            (λ d. IsDecidedTo self.now (λ contents. step (with_contents self.now contents) act.now)
-            d) }
-    {
-        match act {
             Act::OpenRun { day, by } => self.decide_open_run(alloc, *day, by),
             Act::RunStep => self.decide_run_step(alloc),
-            _ => unreachable!(),
         }
     }
 }
