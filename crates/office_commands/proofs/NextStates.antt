@@ -34,7 +34,7 @@ use Rattle.office_desk.specs.Resumptions.{RunLeft, none_open, run_closed, run_st
 use Rattle.office_desk.proofs.RunSteps.{step_run}
 use Rattle.office_json.specs.Answers.{answer_lines}
 use Rattle.office_json.specs.Lists.{acts_in}
-use Rattle.office_csv.specs.ImportRows.{Fields, act_asked}
+use Rattle.office_csv.specs.ImportRows.{Fields, parsed_row}
 use Rattle.office_wire.specs.Importing.{AreLinesOut, ArePrefixRows, AreRowsDone, AreSomeRows, IsAnsweredBy, lines_from}
 use Rattle.office_command_line.specs.Orders as command
 use Rattle.office_command_line.specs.Orders.{Command}
@@ -87,7 +87,7 @@ module _ (stay : StaySound) where
 
   sound_rows : (day : ℤ) (s t : State) (rows : List Fields) (answers : List Answer) → AreRowsDone day s rows answers t → IsSound s → IsSound t
   sound_rows day s t [] answers (none, is) sound = subst IsSound (sym is) sound
-  sound_rows day s t (row ∷ rows) answers (answer, rest, m, reported, one, all) sound = sound_rows day m t rows rest all (sound_row s m answer (act_asked day row) one sound)
+  sound_rows day s t (row ∷ rows) answers (answer, rest, m, reported, one, all) sound = sound_rows day m t rows rest all (sound_row s m answer (parsed_row day row) one sound)
 
 -- ---- what a crash leaves
 

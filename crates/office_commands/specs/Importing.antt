@@ -14,7 +14,7 @@ use Rattle.office_store.specs.RepresentsRows.{HoldsRows}
 use Rattle.office_store.specs.declared.fault.Fault.{Fault}
 use Rattle.office_store.specs.declared.fault.Fault.TheVariants as fault
 use Rattle.office_desk.specs.Leaving.{StopsLeaving}
-use Rattle.office_csv.specs.ImportRows.{Fields, act_asked}
+use Rattle.office_csv.specs.ImportRows.{Fields, parsed_row}
 use Rattle.office_csv.specs.ImportText.{LacksHeader}
 use Rattle.office_wire.specs.declared.record_import.ImportStop.{ImportStop}
 use Rattle.office_wire.specs.declared.record_import.ImportStop.TheVariants as import
@@ -54,7 +54,7 @@ AreSavedBeforeBad day text number new written after t =
 abbrev pub IsRowCut : ℤ → State → Fields → Fault → FileState → Type 0
 IsRowCut day u row f new =
     ((f ≡ fault.Memory) × HoldsRows (rows_of u) new)
-    ⊎ ((act : Act) × (act_asked day row ≡ Ok act) × IsWellFormedAct act × StopsLeaving u (step u act).1 f new)
+    ⊎ ((act : Act) × (parsed_row day row ≡ Ok act) × IsWellFormedAct act × StopsLeaving u (step u act).1 f new)
 
 -- a fault stopped the import after some rows: memory ran out for the next one, or that one was cut
 abbrev pub AreCutShort : ℤ → Option (List ℕ) → Fault → FileState → Option (List ℕ) → Option (List ℕ) → State → Type 0

@@ -71,8 +71,8 @@ addition day p = AddRecord day p.0.0.0 p.0.0.1 p.0.1.0 p.0.1.1 p.1.0.0 p.1.0.1 p
 
 -- the act that adds the record of a row on a day; else 2 where a field is not of its form, before 3 where one is out of
 -- its range
-unfoldable pub act_asked : ℤ → Fields → Result Act Refusal
-act_asked day row =
+unfoldable pub parsed_row : ℤ → Fields → Result Act Refusal
+parsed_row day row =
     made (addition day)
     (both
     (both (both (words_field row.ref_text) (words_field row.title))
@@ -81,8 +81,8 @@ act_asked day row =
 
 -- why no act was read of a row: it is refused, or memory ran out
 abbrev pub IsRowFault : ℤ → Fields → ReadFault → Type 0
-IsRowFault day row fault = (fault ≡ Memory) ⊎ (fault ≡ fault_of (act_asked day row))
+IsRowFault day row fault = (fault ≡ Memory) ⊎ (fault ≡ fault_of (parsed_row day row))
 
 -- what was read of a row is the act that adds its record on a day, or why nothing was
 abbrev pub IsRowRead : ℤ → Fields → Result Act ReadFault → Type 0
-IsRowRead day row read = MatchResult read (λ act. act_asked day row ≡ Ok act) (λ fault. IsRowFault day row fault)
+IsRowRead day row read = MatchResult read (λ act. parsed_row day row ≡ Ok act) (λ fault. IsRowFault day row fault)

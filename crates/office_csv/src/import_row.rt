@@ -104,7 +104,7 @@ fn act_of(
 /// is not of its form, else as `BadNumber` where the number of the aggregation or the length of the
 /// content is out of its range. Empty fields for class and schedule are none. `Memory` comes where
 /// memory was refused.
-#[tactic(auto, unfolding(crate::specs::ImportRows::act_asked))]
+#[tactic(auto, unfolding(crate::specs::ImportRows::parsed_row))]
 pub fn read_import_row(alloc: Global, day: Day, row: &ImportRow) -> Result<Act, ReadFault>
     ensures { IsRowRead day (named row.now) result }
 {

@@ -5,7 +5,7 @@ use Rattle.std.specs.Str.{is_utf8}
 use Rattle.serde_json.specs.Data.{Data, null, boolean, number, string, array, object, Items, no_items, item}
 use Rattle.serde_json.specs.Read.{read}
 use Rattle.office_base.specs.declared.refusal.Refusal.{Refusal}
-use Rattle.office_json.specs.Acts.{asked_by}
+use Rattle.office_json.specs.Acts.{parsed_act}
 use Rattle.office_rules.specs.declared.act.Act.{Act}
 use Rattle.office_json.specs.declared.lists.ListFault.{ListFault}
 use Rattle.office_json.specs.declared.lists.ListFault.TheVariants as fault
@@ -28,7 +28,7 @@ and_act place (Err refusal) rest = Err (bad_act place refusal)
 -- the acts of values, of which the first has that place
 abbrev pub acts_from : ℕ → Items → Result (List Act) NoActs
 acts_from place no_items = Ok []
-acts_from place (item value rest) = and_act place (asked_by value) (acts_from (place + 1) rest)
+acts_from place (item value rest) = and_act place (parsed_act value) (acts_from (place + 1) rest)
 
 -- the acts of an array
 abbrev pub array_acts : Option Data → Result (List Act) NoActs

@@ -1,7 +1,7 @@
 //! Which act a value of JSON asks for.
 ghost use Rattle.std.specs.Prelude.{◌≡◌, IfErr, IfOk, Ok};
 ghost use Rattle.serde_json.specs.View.{view};
-ghost use Rattle.office_json.specs.Acts.{IsActRead, IsReadFault, asked_by, plain_asked};
+ghost use Rattle.office_json.specs.Acts.{IsActRead, IsReadFault, parsed_act, plain_parsed};
 
 mod aggregations;
 mod holds;
@@ -31,11 +31,11 @@ use std::alloc::Global;
 /// `BadNumber` where a number is negative, no whole one or out of its range, or a content has more
 /// than 262,144 bytes. Lack of memory is reported only of an act that is not refused, or where a
 /// content could not be looked at.
-#[tactic(auto, unfolding(crate::specs::Acts::asked_by))]
+#[tactic(auto, unfolding(crate::specs::Acts::parsed_act))]
 pub fn read_act(alloc: Global, value: &Value) -> Result<Act, ReadFault>
-    ensures ok { IfOk result (λ act. asked_by (view value.now) ≡ Ok act) }
+    ensures ok { IfOk result (λ act. parsed_act (view value.now) ≡ Ok act) }
     ensures err { IfErr result
-        (λ fault. IsReadFault (view value.now) (asked_by (view value.now)) fault) }
+        (λ fault. IsReadFault (view value.now) (parsed_act (view value.now)) fault) }
 {
     match text_at(value, "act") {
         Some("add-record") => add_record(alloc, value),
@@ -45,9 +45,9 @@ pub fn read_act(alloc: Global, value: &Value) -> Result<Act, ReadFault>
 }
 
 /// The act of that word, but for a new record.
-#[tactic(auto, unfolding(crate::specs::Acts::plain_asked))]
+#[tactic(auto, unfolding(crate::specs::Acts::plain_parsed))]
 fn plain_act(alloc: Global, word: &str, value: &Value) -> Result<Act, ReadFault>
-    ensures { IsActRead (plain_asked word.now (view value.now)) result }
+    ensures { IsActRead (plain_parsed word.now (view value.now)) result }
 {
     match word {
         "add-schedule" => add_schedule(alloc, value),

@@ -23,7 +23,7 @@ use Rattle.office_desk.specs.Outcomes.{ActsCameTo, IsActAnswered, act_outcome}
 use Rattle.office_rules.specs.Parts.{fault_of}
 use Rattle.office_rules.specs.declared.read_fault.ReadFault.TheVariants.{Refused, Memory}
 use Rattle.office_json.proofs.Appending.{appends_both}
-use Rattle.office_csv.specs.ImportRows.{Fields, act_asked, fields_in}
+use Rattle.office_csv.specs.ImportRows.{Fields, parsed_row, fields_in}
 use Rattle.office_csv.specs.ImportText.{AreAtPrefix, HeadsText, TakesNoText}
 use Rattle.office_csv.specs.declared.import_text.RowStop.{RowStop}
 use Rattle.office_csv.specs.declared.import_text.RowStop.TheVariants as row_stop
@@ -37,7 +37,7 @@ use Rattle.office_wire.proofs.Calls.{called, called_on, not_called}
 -- ---- one row
 
 -- an act was read, and was done or stopped
-pub row_ended : {S : Type 0} (g : Ghosts S) (day : ℤ) (s : State) (row : Fields) (act : Act) (x : Result Answer Fault) (old desk : DeskState S) → act_asked day row ≡ Ok act → IsActAnswered s act x old desk
+pub row_ended : {S : Type 0} (g : Ghosts S) (day : ℤ) (s : State) (row : Fields) (act : Act) (x : Result Answer Fault) (old desk : DeskState S) → parsed_row day row ≡ Ok act → IsActAnswered s act x old desk
     → ActsCameTo s (act ∷ []) (act_outcome x) (state g desk.held) → EndsRow g day s row x desk
 row_ended g day s row act (Ok answer) old desk read it came =
     ((step s act).1, (rw read (it.formed, it.answered, refl)), record { is_open = it.leads.1; office = it.leads.0; sound = came.leaves.sound; rows = came.leaves.rows })

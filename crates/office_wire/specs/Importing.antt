@@ -21,7 +21,7 @@ use Rattle.office_store.specs.declared.fault.Fault.{Fault}
 use Rattle.office_store.specs.declared.fault.Fault.TheVariants as fault
 use Rattle.office_desk.specs.Desk.{DeskState}
 use Rattle.office_desk.specs.Leaving.{IsAt, StopsAt, StopsLeaving}
-use Rattle.office_csv.specs.ImportRows.{Fields, act_asked, fields_in}
+use Rattle.office_csv.specs.ImportRows.{Fields, parsed_row, fields_in}
 use Rattle.office_csv.specs.ImportText.{AreAtPrefix, HeadsText, IsBadNext, IsEnded, LacksHeader}
 use Rattle.office_csv.specs.declared.import_text.RowStop.{RowStop}
 use Rattle.office_csv.specs.declared.import_text.RowStop.TheVariants as row_stop
@@ -38,7 +38,7 @@ IsAnsweredBy s (Err why) answer t = (answer ≡ kind.Refused why) × (t ≡ s)
 
 -- the act of a row adds its record on the day
 abbrev pub IsRowDone : ℤ → State → Fields → Answer → State → Type 0
-IsRowDone day s row answer t = IsAnsweredBy s (act_asked day row) answer t
+IsRowDone day s row answer t = IsAnsweredBy s (parsed_row day row) answer t
 
 -- a fault stopped an act on the way to the state after it
 abbrev pub IsActStopped : {S : Type 0} → Ghosts S → State → Act → Fault → DeskState S → Type 0
@@ -48,7 +48,7 @@ IsActStopped g s act f desk = StopsAt s.office f desk × StopsLeaving s (step s 
 abbrev pub IsRowStopped : {S : Type 0} → Ghosts S → ℤ → State → Fields → Fault → DeskState S → Type 0
 IsRowStopped g day s row f desk =
     ((f ≡ fault.Memory) × IsAt g s desk)
-    ⊎ ((act : Act) × (act_asked day row ≡ Ok act) × IsWellFormedAct act × IsActStopped g s act f desk)
+    ⊎ ((act : Act) × (parsed_row day row ≡ Ok act) × IsWellFormedAct act × IsActStopped g s act f desk)
 
 -- a row was answered, or stopped
 abbrev pub EndsRow : {S : Type 0} → Ghosts S → ℤ → State → Fields → Result Answer Fault → DeskState S → Type 0

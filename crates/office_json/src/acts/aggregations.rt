@@ -1,6 +1,6 @@
 //! The acts on aggregations, and those that give an own class.
 ghost use Rattle.serde_json.specs.View.{view};
-ghost use Rattle.office_json.specs.Acts.{IsActRead, add_aggregation_asked, close_aggregation_asked, reclassify_asked};
+ghost use Rattle.office_json.specs.Acts.{IsActRead, add_aggregation_parsed, close_aggregation_parsed, reclassify_parsed};
 
 use crate::ReadFault;
 use crate::members::has_only;
@@ -12,9 +12,9 @@ use serde_json::Value;
 use std::alloc::Global;
 
 /// `add-aggregation`: an aggregation is added.
-#[tactic(auto, unfolding(crate::specs::Acts::add_aggregation_asked))]
+#[tactic(auto, unfolding(crate::specs::Acts::add_aggregation_parsed))]
 pub(crate) fn add_aggregation(alloc: Global, value: &Value) -> Result<Act, ReadFault>
-    ensures { IsActRead (add_aggregation_asked (view value.now)) result }
+    ensures { IsActRead (add_aggregation_parsed (view value.now)) result }
 {
     if !has_only(value, &["act", "day", "ref", "title", "parent", "class"]) {
         return Err(ReadFault::Refused(Refusal::BadText));
@@ -40,9 +40,9 @@ pub(crate) fn add_aggregation(alloc: Global, value: &Value) -> Result<Act, ReadF
 }
 
 /// `close-aggregation`: an aggregation is closed for good.
-#[tactic(auto, unfolding(crate::specs::Acts::close_aggregation_asked))]
+#[tactic(auto, unfolding(crate::specs::Acts::close_aggregation_parsed))]
 pub(crate) fn close_aggregation(value: &Value) -> Result<Act, ReadFault>
-    ensures { IsActRead (close_aggregation_asked (view value.now)) result }
+    ensures { IsActRead (close_aggregation_parsed (view value.now)) result }
 {
     if !has_only(value, &["act", "day", "aggregation"]) {
         return Err(ReadFault::Refused(Refusal::BadText));
@@ -54,9 +54,9 @@ pub(crate) fn close_aggregation(value: &Value) -> Result<Act, ReadFault>
 }
 
 /// `reclassify`: an aggregation or a record gets an own class, or loses it.
-#[tactic(auto, unfolding(crate::specs::Acts::reclassify_asked))]
+#[tactic(auto, unfolding(crate::specs::Acts::reclassify_parsed))]
 pub(crate) fn reclassify(alloc: Global, value: &Value) -> Result<Act, ReadFault>
-    ensures { IsActRead (reclassify_asked (view value.now)) result }
+    ensures { IsActRead (reclassify_parsed (view value.now)) result }
 {
     if !has_only(value, &["act", "day", "target", "class"]) {
         return Err(ReadFault::Refused(Refusal::BadText));

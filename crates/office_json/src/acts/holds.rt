@@ -1,6 +1,6 @@
 //! The acts on holds.
 ghost use Rattle.serde_json.specs.View.{view};
-ghost use Rattle.office_json.specs.Acts.{IsActRead, hold_off_asked, hold_on_asked, hold_target_part, lift_hold_asked, place_hold_asked};
+ghost use Rattle.office_json.specs.Acts.{IsActRead, hold_off_parsed, hold_on_parsed, hold_target_part, lift_hold_parsed, place_hold_parsed};
 ghost use Rattle.office_rules.specs.Parts.{IsReadAs};
 
 use crate::ReadFault;
@@ -15,9 +15,9 @@ use serde_json::Value;
 use std::alloc::Global;
 
 /// `place-hold`: a hold is placed under a new code.
-#[tactic(auto, unfolding(crate::specs::Acts::place_hold_asked))]
+#[tactic(auto, unfolding(crate::specs::Acts::place_hold_parsed))]
 pub(crate) fn place_hold(alloc: Global, value: &Value) -> Result<Act, ReadFault>
-    ensures { IsActRead (place_hold_asked (view value.now)) result }
+    ensures { IsActRead (place_hold_parsed (view value.now)) result }
 {
     if !has_only(value, &["act", "day", "code", "reason", "by"]) {
         return Err(ReadFault::Refused(Refusal::BadText));
@@ -54,9 +54,9 @@ fn hold_target(alloc: Global, value: &Value) -> Result<(Day, (Code, Target)), Re
 }
 
 /// `hold-on`: a target is put on a hold.
-#[tactic(auto, using(office_rules::proofs::Made::fault_made), unfolding(crate::specs::Acts::hold_on_asked))]
+#[tactic(auto, using(office_rules::proofs::Made::fault_made), unfolding(crate::specs::Acts::hold_on_parsed))]
 pub(crate) fn hold_on(alloc: Global, value: &Value) -> Result<Act, ReadFault>
-    ensures { IsActRead (hold_on_asked (view value.now)) result }
+    ensures { IsActRead (hold_on_parsed (view value.now)) result }
 {
     match hold_target(alloc, value) {
         Ok((day, (hold, target))) => Ok(Act::HoldOn { day, hold, target }),
@@ -65,9 +65,9 @@ pub(crate) fn hold_on(alloc: Global, value: &Value) -> Result<Act, ReadFault>
 }
 
 /// `hold-off`: a target is taken off a hold.
-#[tactic(auto, using(office_rules::proofs::Made::fault_made), unfolding(crate::specs::Acts::hold_off_asked))]
+#[tactic(auto, using(office_rules::proofs::Made::fault_made), unfolding(crate::specs::Acts::hold_off_parsed))]
 pub(crate) fn hold_off(alloc: Global, value: &Value) -> Result<Act, ReadFault>
-    ensures { IsActRead (hold_off_asked (view value.now)) result }
+    ensures { IsActRead (hold_off_parsed (view value.now)) result }
 {
     match hold_target(alloc, value) {
         Ok((day, (hold, target))) => Ok(Act::HoldOff { day, hold, target }),
@@ -76,9 +76,9 @@ pub(crate) fn hold_off(alloc: Global, value: &Value) -> Result<Act, ReadFault>
 }
 
 /// `lift-hold`: a hold is lifted for good.
-#[tactic(auto, unfolding(crate::specs::Acts::lift_hold_asked))]
+#[tactic(auto, unfolding(crate::specs::Acts::lift_hold_parsed))]
 pub(crate) fn lift_hold(alloc: Global, value: &Value) -> Result<Act, ReadFault>
-    ensures { IsActRead (lift_hold_asked (view value.now)) result }
+    ensures { IsActRead (lift_hold_parsed (view value.now)) result }
 {
     if !has_only(value, &["act", "day", "hold"]) {
         return Err(ReadFault::Refused(Refusal::BadText));

@@ -1,7 +1,7 @@
 //! The act that adds a record with its content.
 ghost use Rattle.std.specs.Prelude.{◌≡◌, IfErr, IfOk, Ok};
 ghost use Rattle.serde_json.specs.View.{view};
-ghost use Rattle.office_json.specs.Acts.{IsReadFault, add_record_asked, added, heading_part};
+ghost use Rattle.office_json.specs.Acts.{IsReadFault, add_record_parsed, added, fields_part};
 ghost use Rattle.office_rules.specs.Parts.{IsReadAs};
 
 use crate::ReadFault;
@@ -15,9 +15,9 @@ use office_rules::{Act, Content, as_part, both};
 use serde_json::Value;
 use std::alloc::Global;
 
-/// All of an act that adds a record but the content.
+/// All fields of an act that adds a record but the content.
 #[derive(Drop)]
-pub(crate) struct Heading {
+pub(crate) struct RecordFields {
     day: Day,
     ref_text: Text,
     title: Text,
@@ -27,10 +27,10 @@ pub(crate) struct Heading {
     schedule: Option<Code>,
 }
 
-/// The heading of the members of a value.
-#[tactic(auto, unfolding(crate::specs::Acts::heading_part))]
-fn read_heading(alloc: Global, value: &Value) -> Result<Heading, ReadFault>
-    ensures { IsReadAs (heading_part (view value.now)) result }
+/// The fields of the members of a value.
+#[tactic(auto, unfolding(crate::specs::Acts::fields_part))]
+fn read_fields(alloc: Global, value: &Value) -> Result<RecordFields, ReadFault>
+    ensures { IsReadAs (fields_part (view value.now)) result }
 {
     let placed = both(day_at(value, "day"), number_at(value, "aggregation"));
     let named = both(
@@ -44,7 +44,7 @@ fn read_heading(alloc: Global, value: &Value) -> Result<Heading, ReadFault>
     );
     match both(placed, both(named, both(originated, planned))) {
         Ok(((day, aggregation), ((ref_text, title), (originated, (class, schedule))))) => {
-            Ok(Heading {
+            Ok(RecordFields {
                 day,
                 ref_text,
                 title,
@@ -58,28 +58,28 @@ fn read_heading(alloc: Global, value: &Value) -> Result<Heading, ReadFault>
     }
 }
 
-/// The act of a heading with a content.
-fn act_of(heading: Heading, content: Content) -> Act
-    ensures { result ≡ added (heading, content) }
+/// The act of a fields with a content.
+fn act_of(fields: RecordFields, content: Content) -> Act
+    ensures { result ≡ added (fields, content) }
 {
     Act::AddRecord {
-        day: heading.day,
-        ref_text: heading.ref_text,
-        title: heading.title,
-        originated: heading.originated,
-        aggregation: heading.aggregation,
-        class: heading.class,
-        schedule: heading.schedule,
+        day: fields.day,
+        ref_text: fields.ref_text,
+        title: fields.title,
+        originated: fields.originated,
+        aggregation: fields.aggregation,
+        class: fields.class,
+        schedule: fields.schedule,
         content,
     }
 }
 
 /// `add-record`: a record is added with its content.
-#[tactic(auto, unfolding(crate::specs::Acts::add_record_asked))]
+#[tactic(auto, unfolding(crate::specs::Acts::add_record_parsed))]
 pub(crate) fn add_record(alloc: Global, value: &Value) -> Result<Act, ReadFault>
-    ensures ok { IfOk result (λ act. add_record_asked (view value.now) ≡ Ok act) }
+    ensures ok { IfOk result (λ act. add_record_parsed (view value.now) ≡ Ok act) }
     ensures err { IfErr result
-        (λ fault. IsReadFault (view value.now) (add_record_asked (view value.now)) fault) }
+        (λ fault. IsReadFault (view value.now) (add_record_parsed (view value.now)) fault) }
 {
     let names = [
         "act",
@@ -96,8 +96,8 @@ pub(crate) fn add_record(alloc: Global, value: &Value) -> Result<Act, ReadFault>
         return Err(ReadFault::Refused(Refusal::BadText));
     }
     let content = content_at(alloc, value, "content")?;
-    match both(read_heading(alloc, value), as_part(content)) {
-        Ok((heading, content)) => Ok(act_of(heading, content)),
+    match both(read_fields(alloc, value), as_part(content)) {
+        Ok((fields, content)) => Ok(act_of(fields, content)),
         Err(fault) => Err(fault),
     }
 }

@@ -1,7 +1,7 @@
 //! The acts on records that are there.
 ghost use Rattle.std.specs.Prelude.{◌≡◌};
 ghost use Rattle.serde_json.specs.View.{view};
-ghost use Rattle.office_json.specs.Acts.{IsActRead, confirm_asked, event_asked, receipt_asked, review_asked, set_record_schedule_asked};
+ghost use Rattle.office_json.specs.Acts.{IsActRead, confirm_parsed, event_parsed, receipt_parsed, review_parsed, set_record_schedule_parsed};
 
 use crate::ReadFault;
 use crate::members::has_only;
@@ -14,9 +14,9 @@ use serde_json::Value;
 use std::alloc::Global;
 
 /// `set-record-schedule`: a record gets an own schedule, or loses it.
-#[tactic(auto, unfolding(crate::specs::Acts::set_record_schedule_asked))]
+#[tactic(auto, unfolding(crate::specs::Acts::set_record_schedule_parsed))]
 pub(crate) fn set_record_schedule(alloc: Global, value: &Value) -> Result<Act, ReadFault>
-    ensures { IsActRead (set_record_schedule_asked (view value.now)) result }
+    ensures { IsActRead (set_record_schedule_parsed (view value.now)) result }
 {
     if !has_only(value, &["act", "day", "record", "schedule"]) {
         return Err(ReadFault::Refused(Refusal::BadText));
@@ -36,9 +36,9 @@ pub(crate) fn set_record_schedule(alloc: Global, value: &Value) -> Result<Act, R
 }
 
 /// `confirm`: a due record may be disposed of as its plan says.
-#[tactic(auto, unfolding(crate::specs::Acts::confirm_asked))]
+#[tactic(auto, unfolding(crate::specs::Acts::confirm_parsed))]
 pub(crate) fn confirm(alloc: Global, value: &Value) -> Result<Act, ReadFault>
-    ensures { IsActRead (confirm_asked (view value.now)) result }
+    ensures { IsActRead (confirm_parsed (view value.now)) result }
 {
     if !has_only(value, &["act", "day", "record", "action", "by"]) {
         return Err(ReadFault::Refused(Refusal::BadText));
@@ -57,9 +57,9 @@ pub(crate) fn confirm(alloc: Global, value: &Value) -> Result<Act, ReadFault>
 }
 
 /// `review`: a due record was reviewed, and gets an own schedule where one is named.
-#[tactic(auto, unfolding(crate::specs::Acts::review_asked))]
+#[tactic(auto, unfolding(crate::specs::Acts::review_parsed))]
 pub(crate) fn review(alloc: Global, value: &Value) -> Result<Act, ReadFault>
-    ensures { IsActRead (review_asked (view value.now)) result }
+    ensures { IsActRead (review_parsed (view value.now)) result }
 {
     if !has_only(value, &["act", "day", "record", "schedule", "by"]) {
         return Err(ReadFault::Refused(Refusal::BadText));
@@ -95,9 +95,9 @@ fn receipt_of(which: (Day, RecordNo), how: ([u8; 32], Text)) -> Act
 }
 
 /// `receipt`: the receiver of a record that was sent has it, with the digest that it names.
-#[tactic(auto, unfolding(crate::specs::Acts::receipt_asked))]
+#[tactic(auto, unfolding(crate::specs::Acts::receipt_parsed))]
 pub(crate) fn receipt(alloc: Global, value: &Value) -> Result<Act, ReadFault>
-    ensures { IsActRead (receipt_asked (view value.now)) result }
+    ensures { IsActRead (receipt_parsed (view value.now)) result }
 {
     if !has_only(value, &["act", "day", "record", "digest", "by"]) {
         return Err(ReadFault::Refused(Refusal::BadText));
@@ -125,9 +125,9 @@ fn event_of(which: (Day, RecordNo), how: (Day, Text)) -> Act
 }
 
 /// `event`: an event of a record is recorded, with the day on which it occurred.
-#[tactic(auto, unfolding(crate::specs::Acts::event_asked))]
+#[tactic(auto, unfolding(crate::specs::Acts::event_parsed))]
 pub(crate) fn event(alloc: Global, value: &Value) -> Result<Act, ReadFault>
-    ensures { IsActRead (event_asked (view value.now)) result }
+    ensures { IsActRead (event_parsed (view value.now)) result }
 {
     if !has_only(value, &["act", "day", "record", "occurred", "by"]) {
         return Err(ReadFault::Refused(Refusal::BadText));

@@ -1,6 +1,6 @@
 //! The acts on disposal runs.
 ghost use Rattle.serde_json.specs.View.{view};
-ghost use Rattle.office_json.specs.Acts.{IsActRead, open_run_asked, run_step_asked};
+ghost use Rattle.office_json.specs.Acts.{IsActRead, open_run_parsed, run_step_parsed};
 
 use crate::ReadFault;
 use crate::members::has_only;
@@ -11,9 +11,9 @@ use serde_json::Value;
 use std::alloc::Global;
 
 /// `open-run`: a disposal run is opened.
-#[tactic(auto, unfolding(crate::specs::Acts::open_run_asked))]
+#[tactic(auto, unfolding(crate::specs::Acts::open_run_parsed))]
 pub(crate) fn open_run(alloc: Global, value: &Value) -> Result<Act, ReadFault>
-    ensures { IsActRead (open_run_asked (view value.now)) result }
+    ensures { IsActRead (open_run_parsed (view value.now)) result }
 {
     if !has_only(value, &["act", "day", "by"]) {
         return Err(ReadFault::Refused(Refusal::BadText));
@@ -25,9 +25,9 @@ pub(crate) fn open_run(alloc: Global, value: &Value) -> Result<Act, ReadFault>
 }
 
 /// `run-step`: the open run takes its next record, or closes. It has no day.
-#[tactic(auto, unfolding(crate::specs::Acts::run_step_asked))]
+#[tactic(auto, unfolding(crate::specs::Acts::run_step_parsed))]
 pub(crate) fn run_step(value: &Value) -> Result<Act, ReadFault>
-    ensures { IsActRead (run_step_asked (view value.now)) result }
+    ensures { IsActRead (run_step_parsed (view value.now)) result }
 {
     if has_only(value, &["act"]) {
         Ok(Act::RunStep)

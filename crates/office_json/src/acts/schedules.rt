@@ -1,6 +1,6 @@
 //! The acts on disposal schedules and classes.
 ghost use Rattle.serde_json.specs.View.{view};
-ghost use Rattle.office_json.specs.Acts.{IsActRead, add_class_asked, add_schedule_asked, set_class_schedule_asked};
+ghost use Rattle.office_json.specs.Acts.{IsActRead, add_class_parsed, add_schedule_parsed, set_class_schedule_parsed};
 
 use crate::ReadFault;
 use crate::members::has_only;
@@ -11,9 +11,9 @@ use serde_json::Value;
 use std::alloc::Global;
 
 /// `add-schedule`: a disposal schedule is added under a new code.
-#[tactic(auto, unfolding(crate::specs::Acts::add_schedule_asked))]
+#[tactic(auto, unfolding(crate::specs::Acts::add_schedule_parsed))]
 pub(crate) fn add_schedule(alloc: Global, value: &Value) -> Result<Act, ReadFault>
-    ensures { IsActRead (add_schedule_asked (view value.now)) result }
+    ensures { IsActRead (add_schedule_parsed (view value.now)) result }
 {
     if !has_only(
         value,
@@ -40,9 +40,9 @@ pub(crate) fn add_schedule(alloc: Global, value: &Value) -> Result<Act, ReadFaul
 }
 
 /// `add-class`: a class is added under a new code.
-#[tactic(auto, unfolding(crate::specs::Acts::add_class_asked))]
+#[tactic(auto, unfolding(crate::specs::Acts::add_class_parsed))]
 pub(crate) fn add_class(alloc: Global, value: &Value) -> Result<Act, ReadFault>
-    ensures { IsActRead (add_class_asked (view value.now)) result }
+    ensures { IsActRead (add_class_parsed (view value.now)) result }
 {
     if !has_only(value, &["act", "day", "code", "title", "schedule"]) {
         return Err(ReadFault::Refused(Refusal::BadText));
@@ -64,9 +64,9 @@ pub(crate) fn add_class(alloc: Global, value: &Value) -> Result<Act, ReadFault>
 }
 
 /// `set-class-schedule`: a class gets another schedule.
-#[tactic(auto, unfolding(crate::specs::Acts::set_class_schedule_asked))]
+#[tactic(auto, unfolding(crate::specs::Acts::set_class_schedule_parsed))]
 pub(crate) fn set_class_schedule(alloc: Global, value: &Value) -> Result<Act, ReadFault>
-    ensures { IsActRead (set_class_schedule_asked (view value.now)) result }
+    ensures { IsActRead (set_class_schedule_parsed (view value.now)) result }
 {
     if !has_only(value, &["act", "day", "class", "schedule"]) {
         return Err(ReadFault::Refused(Refusal::BadText));

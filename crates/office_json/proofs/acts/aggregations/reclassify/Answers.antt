@@ -1,16 +1,16 @@
 use Rattle.std.proofs.Common.{◌≡◌, ◌∙◌, rules, sym, true}
-use Rattle.office_json.specs.Acts.{reclassify_asked}
+use Rattle.office_json.specs.Acts.{reclassify_parsed}
 use Rattle.office_json.proofs.Faults.{act_fault, act_ok}
 use Rattle.office_json.proofs.acts.aggregations.reclassify.Goals as goal
 
 pub returns-in-Ok : goal.returns-in-Ok
-unfolding reclassify_asked
+unfolding reclassify_parsed
 returns-in-Ok c =
     let plain : c.has_only.result ≡ true = search rules in
     act_ok _ _ _ _ (sym c.has_only.ensures ∙ plain) (c.in-Ok.ensures _ _ c.day_at.ensures (c.both-what.ensures _ _ c.classified_at.ensures c.optional_code_at.ensures))
 
 pub returns-in-Err : goal.returns-in-Err
-unfolding reclassify_asked
+unfolding reclassify_parsed
 returns-in-Err c =
     let plain : c.has_only.result ≡ true = search rules in
     act_fault _ _ _ _ (sym c.has_only.ensures ∙ plain) (c.in-Err.ensures _ _ c.day_at.ensures (c.both-what.ensures _ _ c.classified_at.ensures c.optional_code_at.ensures))

@@ -1,16 +1,16 @@
 use Rattle.std.proofs.Common.{◌≡◌, ◌∙◌, rules, sym, true}
-use Rattle.office_json.specs.Acts.{place_hold_asked}
+use Rattle.office_json.specs.Acts.{place_hold_parsed}
 use Rattle.office_json.proofs.Faults.{act_fault, act_ok}
 use Rattle.office_json.proofs.acts.holds.place_hold.Goals as goal
 
 pub returns-in-Ok : goal.returns-in-Ok
-unfolding place_hold_asked
+unfolding place_hold_parsed
 returns-in-Ok c =
     let plain : c.has_only.result ≡ true = search rules in
     act_ok _ _ _ _ (sym c.has_only.ensures ∙ plain) (c.in-Ok.ensures _ _ (c.both-named.ensures _ _ c.day_at.ensures c.code_at.ensures) (c.both-reported.ensures _ _ c.words_at.ensures c.words_at-2.ensures))
 
 pub returns-in-Err : goal.returns-in-Err
-unfolding place_hold_asked
+unfolding place_hold_parsed
 returns-in-Err c =
     let plain : c.has_only.result ≡ true = search rules in
     act_fault _ _ _ _ (sym c.has_only.ensures ∙ plain) (c.in-Err.ensures _ _ (c.both-named.ensures _ _ c.day_at.ensures c.code_at.ensures) (c.both-reported.ensures _ _ c.words_at.ensures c.words_at-2.ensures))

@@ -1,16 +1,16 @@
 use Rattle.std.proofs.Common.{◌≡◌, ◌∙◌, rules, sym, true}
-use Rattle.office_json.specs.Acts.{confirm_asked}
+use Rattle.office_json.specs.Acts.{confirm_parsed}
 use Rattle.office_json.proofs.Faults.{act_fault, act_ok}
 use Rattle.office_json.proofs.acts.records.confirm.Goals as goal
 
 pub returns-in-Ok : goal.returns-in-Ok
-unfolding confirm_asked
+unfolding confirm_parsed
 returns-in-Ok c =
     let plain : c.has_only.result ≡ true = search rules in
     act_ok _ _ _ _ (sym c.has_only.ensures ∙ plain) (c.in-Ok.ensures _ _ (c.both-which.ensures _ _ c.day_at.ensures c.number_at.ensures) (c.both-how.ensures _ _ c.action_at.ensures c.words_at.ensures))
 
 pub returns-in-Err : goal.returns-in-Err
-unfolding confirm_asked
+unfolding confirm_parsed
 returns-in-Err c =
     let plain : c.has_only.result ≡ true = search rules in
     act_fault _ _ _ _ (sym c.has_only.ensures ∙ plain) (c.in-Err.ensures _ _ (c.both-which.ensures _ _ c.day_at.ensures c.number_at.ensures) (c.both-how.ensures _ _ c.action_at.ensures c.words_at.ensures))
