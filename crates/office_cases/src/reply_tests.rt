@@ -3,7 +3,7 @@ use crate::streams::{Narrow, Sent};
 use httparse::spans::HeaderSpan;
 use office_base::Io;
 use office_http::{
-    Allow, Body, Failure, Head, Kind, LONGEST_HEAD, Reply, RequestPlan, Routes, Status,
+    Allow, Body, Failure, Head, LONGEST_HEAD, MediaType, Reply, RequestPlan, Routes, Status,
     check_reply, failure_reply, is_head_in, plan_in, read_head, write_reply,
 };
 use std::io::Write;
@@ -108,8 +108,8 @@ fn report_text(bytes: &[u8], out: &mut Vec<u8>) -> Option<()> {
     let text = String::from_str(*out.allocator(), str::from_utf8(bytes).ok()?).ok()?;
     let reply = Reply {
         status: Status::Ok,
-        kind: Kind::Plain,
-        allow: Allow::Any,
+        media_type: MediaType::Plain,
+        allow: Allow::Absent,
         body: Body::Text(text),
     };
     report_reply(&reply, false, out)
@@ -120,8 +120,8 @@ fn report_octets(bytes: &[u8], out: &mut Vec<u8>) -> Option<()> {
     let octets = Vec::from_slice(*out.allocator(), bytes).ok()?;
     let reply = Reply {
         status: Status::Conflict,
-        kind: Kind::Octets,
-        allow: Allow::Any,
+        media_type: MediaType::Octets,
+        allow: Allow::Absent,
         body: Body::Bytes(octets),
     };
     report_reply(&reply, false, out)

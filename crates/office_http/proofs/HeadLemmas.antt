@@ -47,7 +47,7 @@ unreported (Some xs) None = tt
 unreported (Some xs) (Some ys) = tt
 
 pub reads_none : (old new : Option (List ℕ)) (buf : List ℕ) (headers : List HeaderSpan) → Consumes old new buf → IfSome old (λ bytes. IsRequest headless bytes) → ReadsHead Missing buf headers old new
-reads_none old new buf headers h n = record { read = h; head = n; spans = tt; asked = unreported old new }
+reads_none old new buf headers h n = record { read = h; head = n; spans = tt; request = unreported old new }
 
 -- no bytes begin no head
 pub nothing_has_none : (buf : List ℕ) → true ≡ (length buf == 0) → HasNoRequest buf

@@ -12,16 +12,16 @@ use Rattle.httparse.specs.Ascii.{crlf_bytes, space}
 use Rattle.httparse.specs.Grammar.{AllPass, Field, IsField, IsResponseHead, ReadsResponse, crlf, is_token_byte, is_value_byte, print_field, print_response, print_section, print_version}
 use Rattle.office_http.proofs.NumberLemmas.{both_true, digits_model}
 use Rattle.office_http.specs.Messages.{allow_fields, close_fields, field_of, message_fields, message_head}
-use Rattle.office_http.specs.Replies.{Response, allow_line, close_lines, head_end, head_start, kind_line, line_end, media_type, reason_phrase, response_head, response_text, status_number, status_words}
+use Rattle.office_http.specs.Replies.{Response, allow_line, close_lines, head_end, head_start, media_type_line, line_end, media_type_text, reason_phrase, response_head, response_text, status_number, status_words}
 use Rattle.office_http.specs.declared.reply.Allow.{Allow}
 use Rattle.office_http.specs.declared.reply.Allow.TheVariants as allows
-use Rattle.office_http.specs.declared.reply.Kind.{Kind}
-use Rattle.office_http.specs.declared.reply.Kind.TheVariants as kinds
+use Rattle.office_http.specs.declared.reply.MediaType.{MediaType}
+use Rattle.office_http.specs.declared.reply.MediaType.TheVariants as media_types
 use Rattle.office_http.specs.declared.status.Status.{Status}
 use Rattle.office_http.specs.declared.status.Status.TheVariants as statuses
 
 -- the first lines and what follows them
-start : (s : Status) (k : Kind) (rest : List ℕ) → head_start s k ++ rest ≡ print_version 1 ++ space ∷ decimal (status_number s) ++ (space ∷ reason_phrase s) ++ crlf_bytes ++ (kind_line k ++ rest)
+start : (s : Status) (k : MediaType) (rest : List ℕ) → head_start s k ++ rest ≡ print_version 1 ++ space ∷ decimal (status_number s) ++ (space ∷ reason_phrase s) ++ crlf_bytes ++ (media_type_line k ++ rest)
 unfolding status_words digits
 start statuses.Ok k rest = refl
 start statuses.BadRequest k rest = refl
@@ -35,7 +35,7 @@ start statuses.ServiceUnavailable k rest = refl
 
 allowed : (a : Allow) → allow_line a ++ close_lines ≡ print_section (allow_fields a) crlf
 unfolding allow_line
-allowed allows.Any = refl
+allowed allows.Absent = refl
 allowed allows.Get = refl
 allowed allows.Post = refl
 
@@ -46,23 +46,23 @@ sized value fields =
     ap (λ (t : List ℕ). codes "Content-Length: " ++ t)
     (sym (append_assoc (value ++ crlf_bytes) (flat_map print_field fields) crlf_bytes ∙ append_assoc value crlf_bytes rest))
 
--- the line of the kind, and what follows it
-kinds_line : (k : Kind) (fields : List Field) → kind_line k ++ print_section fields crlf ≡ print_section (field_of (codes "Content-Type") (media_type k) ∷ fields) crlf
-unfolding kind_line
-kinds_line kinds.Json fields = refl
-kinds_line kinds.Octets fields = refl
-kinds_line kinds.Plain fields = refl
+-- the line of the media type, and what follows it
+media_type_lines : (k : MediaType) (fields : List Field) → media_type_line k ++ print_section fields crlf ≡ print_section (field_of (codes "Content-Type") (media_type_text k) ∷ fields) crlf
+unfolding media_type_line
+media_type_lines media_types.Json fields = refl
+media_type_lines media_types.Octets fields = refl
+media_type_lines media_types.Plain fields = refl
 
-section_is : (r : Response) → kind_line r.kind ++ head_end (length r.body) r.allow ≡ print_section (message_fields r) crlf
+section_is : (r : Response) → media_type_line r.media_type ++ head_end (length r.body) r.allow ≡ print_section (message_fields r) crlf
 section_is r =
-    ap (λ (t : List ℕ). kind_line r.kind ++ (codes "Content-Length: " ++ (decimal (length r.body) ++ (line_end ++ t)))) (allowed r.allow)
-    ∙ ap (λ (t : List ℕ). kind_line r.kind ++ t) (sized (decimal (length r.body)) (allow_fields r.allow))
-    ∙ kinds_line r.kind (field_of (codes "Content-Length") (decimal (length r.body)) ∷ allow_fields r.allow)
+    ap (λ (t : List ℕ). media_type_line r.media_type ++ (codes "Content-Length: " ++ (decimal (length r.body) ++ (line_end ++ t)))) (allowed r.allow)
+    ∙ ap (λ (t : List ℕ). media_type_line r.media_type ++ t) (sized (decimal (length r.body)) (allow_fields r.allow))
+    ∙ media_type_lines r.media_type (field_of (codes "Content-Length") (decimal (length r.body)) ∷ allow_fields r.allow)
 
 pub head_is : (r : Response) → response_head r ≡ print_response (message_head r)
 unfolding print_response
 head_is r =
-    start r.status r.kind (head_end (length r.body) r.allow)
+    start r.status r.media_type (head_end (length r.body) r.allow)
     ∙ ap (λ (t : List ℕ). print_version 1 ++ space ∷ decimal (status_number r.status) ++ (space ∷ reason_phrase r.status) ++ crlf_bytes ++ t) (section_is r)
 
 three_digits : (s : Status) → (length (decimal (status_number s)) ≡ 3) × AllPass is_ascii_digit (decimal (status_number s))
@@ -107,11 +107,11 @@ is_field name value some token bytes = record {
   raw = AllPass-from_list_all is_value_byte (32 ∷ value) bytes;
 }
 
-kind_field : (k : Kind) → IsField (field_of (codes "Content-Type") (media_type k))
+media_type_field : (k : MediaType) → IsField (field_of (codes "Content-Type") (media_type_text k))
 unfolding is_token_byte
-kind_field kinds.Json = is_field (codes "Content-Type") (media_type kinds.Json) (lit< tt) refl refl
-kind_field kinds.Octets = is_field (codes "Content-Type") (media_type kinds.Octets) (lit< tt) refl refl
-kind_field kinds.Plain = is_field (codes "Content-Type") (media_type kinds.Plain) (lit< tt) refl refl
+media_type_field media_types.Json = is_field (codes "Content-Type") (media_type_text media_types.Json) (lit< tt) refl refl
+media_type_field media_types.Octets = is_field (codes "Content-Type") (media_type_text media_types.Octets) (lit< tt) refl refl
+media_type_field media_types.Plain = is_field (codes "Content-Type") (media_type_text media_types.Plain) (lit< tt) refl refl
 
 length_field : (n : ℕ) → n < 2 ^ 64 → IsField (field_of (codes "Content-Length") (decimal n))
 unfolding is_token_byte
@@ -123,7 +123,7 @@ are_close = All-cons IsField _ [] (is_field (codes "Connection") (codes "close")
 
 are_allow : (a : Allow) → All IsField (allow_fields a)
 unfolding is_token_byte
-are_allow allows.Any = are_close
+are_allow allows.Absent = are_close
 are_allow allows.Get = All-cons IsField _ close_fields (is_field (codes "Allow") (codes "GET") (lit< tt) refl refl) are_close
 are_allow allows.Post = All-cons IsField _ close_fields (is_field (codes "Allow") (codes "POST") (lit< tt) refl refl) are_close
 
@@ -132,7 +132,7 @@ is_head r fits = record {
   minor = omega arith;
   digits = three_digits r.status;
   reason = phrase_bytes r.status;
-  fields = All-cons IsField _ (field_of (codes "Content-Length") (decimal (length r.body)) ∷ allow_fields r.allow) (kind_field r.kind) (All-cons IsField _ (allow_fields r.allow) (length_field (length r.body) fits) (are_allow r.allow));
+  fields = All-cons IsField _ (field_of (codes "Content-Length") (decimal (length r.body)) ∷ allow_fields r.allow) (media_type_field r.media_type) (All-cons IsField _ (allow_fields r.allow) (length_field (length r.body) fits) (are_allow r.allow));
 }
 
 pub is_message : (r : Response) → length r.body < 2 ^ 64 → ReadsResponse (response_text false r) (message_head r) r.body

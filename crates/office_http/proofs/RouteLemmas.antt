@@ -4,11 +4,11 @@ use Rattle.matchit.specs.Router.{InsertsRead}
 use Rattle.matchit.specs.Route.{Scan}
 use Rattle.matchit.specs.declared.error.InsertError.{InsertError}
 use Rattle.office_http.specs.Paths.{RouteList, with_scanned}
-use Rattle.office_http.specs.declared.paths.Resource.{Resource}
+use Rattle.office_http.specs.declared.paths.Route.{Route}
 
-pub route_inserted : (read : Result Scan InsertError) (resource : Resource) (old new : RouteList) (u : Unit {0}) → InsertsRead read resource old new (Ok u) → new ≡ with_scanned read resource old
-route_inserted (Ok s) resource old new u h = h.1
-route_inserted (Err e) resource old new u h = elim h.1 [
+pub route_inserted : (read : Result Scan InsertError) (route : Route) (old new : RouteList) (u : Unit {0}) → InsertsRead read route old new (Ok u) → new ≡ with_scanned read route old
+route_inserted (Ok s) route old new u h = h.1
+route_inserted (Err e) route old new u h = elim h.1 [
   | inl p ↦ cc
   | inr p ↦ cc
 ]

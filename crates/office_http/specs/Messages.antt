@@ -1,7 +1,7 @@
 -- An answer, part by part, as a message of HTTP that `httparse` reads. Source: RFC 9112 sections 2.1, 4 and 5.
 use Rattle.std.specs.Prelude.{ℕ, List, [], ◌∷◌, codes, decimal, length, Some}
 use Rattle.httparse.specs.Grammar.{Field, ResponseHead, crlf}
-use Rattle.office_http.specs.Replies.{Response, media_type, reason_phrase, status_number}
+use Rattle.office_http.specs.Replies.{Response, media_type_text, reason_phrase, status_number}
 use Rattle.office_http.specs.declared.reply.Allow.{Allow}
 use Rattle.office_http.specs.declared.reply.Allow.TheVariants as allows
 
@@ -15,14 +15,14 @@ close_fields = field_of (codes "Connection") (codes "close") ∷ []
 
 -- with the field line of the method that is allowed, where one is reported
 abbrev pub allow_fields : Allow → List Field
-allow_fields allows.Any = close_fields
+allow_fields allows.Absent = close_fields
 allow_fields allows.Get = field_of (codes "Allow") (codes "GET") ∷ close_fields
 allow_fields allows.Post = field_of (codes "Allow") (codes "POST") ∷ close_fields
 
 -- the field lines: what the body is, how long it is, what is allowed, and that the connection is closed
 abbrev pub message_fields : Response → List Field
 message_fields r =
-    field_of (codes "Content-Type") (media_type r.kind)
+    field_of (codes "Content-Type") (media_type_text r.media_type)
     ∷ field_of (codes "Content-Length") (decimal (length r.body))
     ∷ allow_fields r.allow
 

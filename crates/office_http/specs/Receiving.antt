@@ -4,7 +4,7 @@ use Rattle.std.specs.Prelude.{◌≡◌, ◌++◌, ℕ, List, IfOk, IfSome, Matc
 use Rattle.httparse.specs.Grammar.{RequestHead}
 use Rattle.office_http.specs.RequestPlans.{is_head_method, plan_at}
 use Rattle.office_http.specs.Requests.{IsRequest, nothing, headless, asks}
-use Rattle.office_http.specs.declared.check.Check.{Check}
+use Rattle.office_http.specs.declared.rejection.Rejection.{Rejection}
 use Rattle.office_http.specs.declared.request_plan.RequestPlan.{RequestPlan}
 use Rattle.office_http.specs.declared.request_plan.RequestPlan.TheVariants.{Acts, Refuse, Serve}
 use Rattle.office_http.specs.declared.path_request.PathRequest.{PathRequest}
@@ -19,7 +19,7 @@ use Rattle.office_http.specs.declared.request.ReceiveStop.TheVariants as stop
 -- what is asked of the office: nothing, since a check of the head fails or the body is cut; the acts of a body; or what
 -- the path says
 pub data Wanted : Type 0 where
-  refused : Check → Wanted
+  refused : Rejection → Wanted
   cut : Wanted
   acts : List ℕ → Wanted
   requested : PathRequest → Wanted
@@ -40,19 +40,19 @@ wanted h rest = plan_wanted (plan_at h) rest
 -- ---- what the code answers
 
 -- what was received, as it is wanted
-abbrev pub asked_for : Operation → Wanted
-asked_for (operation.Refused check) = refused check
-asked_for operation.Cut = cut
-asked_for (operation.Acts body) = acts body
-asked_for (operation.Serve request) = requested request
+abbrev pub operation_wanted : Operation → Wanted
+operation_wanted (operation.Refused check) = refused check
+operation_wanted operation.Cut = cut
+operation_wanted (operation.Acts body) = acts body
+operation_wanted (operation.Serve request) = requested request
 
 -- what was received is what these bytes and all that the reader had left ask for
-abbrev pub AsksFor : {E : Type 0} → (List ℕ → Wanted) → List ℕ → Option (List ℕ) → Result Operation E → Type 0
-AsksFor wanted_of read left result = IfOk result (λ it. IfSome left (λ rest. asked_for it ≡ wanted_of (read ++ rest)))
+abbrev pub IsOperationWanted : {E : Type 0} → (List ℕ → Wanted) → List ℕ → Option (List ℕ) → Result Operation E → Type 0
+IsOperationWanted wanted_of read left result = IfOk result (λ it. IfSome left (λ rest. operation_wanted it ≡ wanted_of (read ++ rest)))
 
 -- of a head and the bytes after it: what they ask for, and whether the head of the answer alone is written
-pub record IsAskedBy (h : RequestHead) (rest : List ℕ) (it : ParsedRequest) : Type 0 where
-  pub wanted : asked_for it.operation ≡ wanted h rest
+pub record IsParsedFrom (h : RequestHead) (rest : List ℕ) (it : ParsedRequest) : Type 0 where
+  pub wanted : operation_wanted it.operation ≡ wanted h rest
   pub is_head : it.is_head ≡ is_head_method h.method
 
 -- what was received is what all bytes are
@@ -60,7 +60,7 @@ abbrev pub IsReceived : Received → List ℕ → Type 0
 IsReceived received.Nothing bytes = IsRequest nothing bytes
 IsReceived received.Headless bytes = IsRequest headless bytes
 IsReceived (received.Request it) bytes =
-    (h : RequestHead) × (rest : List ℕ) × IsRequest (asks h rest) bytes × IsAskedBy h rest it
+    (h : RequestHead) × (rest : List ℕ) × IsRequest (asks h rest) bytes × IsParsedFrom h rest it
 
 -- acts in a body of some size are asked for
 abbrev pub HasActs : RequestHead → Type 0

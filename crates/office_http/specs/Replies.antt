@@ -1,7 +1,7 @@
 -- The bytes of an answer. Source: the message of RFC 9112 section 2.1; field lines, their order and the bodies are own.
 use Rattle.std.specs.Prelude.{ℕ, List, [], ◌∷◌, ◌++◌, codes, decimal, length, Bool, if◌then◌else◌, string_bytes}
-use Rattle.office_http.specs.declared.check.Check.{Check}
-use Rattle.office_http.specs.declared.check.Check.TheVariants as checks
+use Rattle.office_http.specs.declared.rejection.Rejection.{Rejection}
+use Rattle.office_http.specs.declared.rejection.Rejection.TheVariants as rejections
 use Rattle.office_http.specs.declared.failure.Failure.{Failure}
 use Rattle.office_http.specs.declared.failure.Failure.TheVariants as failures
 use Rattle.office_http.specs.declared.status.Status.{Status}
@@ -10,8 +10,8 @@ use Rattle.office_http.specs.declared.reply.Allow.{Allow}
 use Rattle.office_http.specs.declared.reply.Allow.TheVariants as allows
 use Rattle.office_http.specs.declared.reply.Body.{Body}
 use Rattle.office_http.specs.declared.reply.Body.TheVariants as bodies
-use Rattle.office_http.specs.declared.reply.Kind.{Kind}
-use Rattle.office_http.specs.declared.reply.Kind.TheVariants as kinds
+use Rattle.office_http.specs.declared.reply.MediaType.{MediaType}
+use Rattle.office_http.specs.declared.reply.MediaType.TheVariants as media_types
 use Rattle.office_http.specs.declared.reply.Reply.{Reply}
 
 abbrev pub line_end : List ℕ
@@ -45,17 +45,17 @@ unfoldable pub status_words : Status → List ℕ
 status_words status = decimal (status_number status) ++ codes " " ++ reason_phrase status
 
 -- the media type of the body
-abbrev pub media_type : Kind → List ℕ
-media_type kinds.Json = codes "application/json"
-media_type kinds.Octets = codes "application/octet-stream"
-media_type kinds.Plain = codes "text/plain; charset=utf-8"
+abbrev pub media_type_text : MediaType → List ℕ
+media_type_text media_types.Json = codes "application/json"
+media_type_text media_types.Octets = codes "application/octet-stream"
+media_type_text media_types.Plain = codes "text/plain; charset=utf-8"
 
-unfoldable pub kind_line : Kind → List ℕ
-kind_line kind = codes "Content-Type: " ++ media_type kind ++ line_end
+unfoldable pub media_type_line : MediaType → List ℕ
+media_type_line media_type = codes "Content-Type: " ++ media_type_text media_type ++ line_end
 
 -- which method the path takes, where another came
 unfoldable pub allow_line : Allow → List ℕ
-allow_line allows.Any = []
+allow_line allows.Absent = []
 allow_line allows.Get = codes "Allow: GET" ++ line_end
 allow_line allows.Post = codes "Allow: POST" ++ line_end
 
@@ -63,9 +63,9 @@ allow_line allows.Post = codes "Allow: POST" ++ line_end
 abbrev pub close_lines : List ℕ
 close_lines = codes "Connection: close" ++ line_end ++ line_end
 
--- the first lines of a head: the status, and the kind of the body
-abbrev pub head_start : Status → Kind → List ℕ
-head_start status kind = codes "HTTP/1.1 " ++ (status_words status ++ (line_end ++ kind_line kind))
+-- the first lines of a head: the status, and the media type of the body
+abbrev pub head_start : Status → MediaType → List ℕ
+head_start status media_type = codes "HTTP/1.1 " ++ (status_words status ++ (line_end ++ media_type_line media_type))
 
 -- the other lines: the length of the body, the method that is taken, and the end
 abbrev pub head_end : ℕ → Allow → List ℕ
@@ -73,13 +73,13 @@ head_end size allow =
     codes "Content-Length: " ++ (decimal size ++ (line_end ++ (allow_line allow ++ close_lines)))
 
 -- the head of an answer
-abbrev pub head_text : Status → Kind → ℕ → Allow → List ℕ
-head_text status kind size allow = head_start status kind ++ head_end size allow
+abbrev pub head_text : Status → MediaType → ℕ → Allow → List ℕ
+head_text status media_type size allow = head_start status media_type ++ head_end size allow
 
 -- an answer, wherever its body lies
 pub record Response : Type 0 where
   pub status : Status
-  pub kind : Kind
+  pub media_type : MediaType
   pub allow : Allow
   pub body : List ℕ
 
@@ -89,10 +89,10 @@ body_bytes (bodies.Text text) = string_bytes text
 body_bytes (bodies.Bytes bytes) = bytes.items
 
 abbrev pub response : Reply → Response
-response reply = record { status = reply.status; kind = reply.kind; allow = reply.allow; body = body_bytes reply.body }
+response reply = record { status = reply.status; media_type = reply.media_type; allow = reply.allow; body = body_bytes reply.body }
 
 abbrev pub response_head : Response → List ℕ
-response_head r = head_text r.status r.kind (length r.body) r.allow
+response_head r = head_text r.status r.media_type (length r.body) r.allow
 
 -- the bytes of an answer; to HEAD those of its head alone
 abbrev pub response_text : Bool → Response → List ℕ
@@ -101,27 +101,27 @@ response_text is_head r = if is_head then response_head r else response_head r +
 -- an answer that names an error by a word
 abbrev pub error_response : Status → Allow → List ℕ → Response
 error_response status allow word =
-    record { status = status; kind = kinds.Json; allow = allow; body = codes "{\"error\":\"" ++ word ++ codes "\"}" }
+    record { status = status; media_type = media_types.Json; allow = allow; body = codes "{\"error\":\"" ++ word ++ codes "\"}" }
 
 -- the answer where a check of the head fails
-unfoldable pub check_response : Check → Response
-check_response checks.Host = error_response statuses.BadRequest allows.Any (codes "host")
-check_response checks.Path = error_response statuses.NotFound allows.Any (codes "path")
-check_response checks.NotGet = error_response statuses.MethodNotAllowed allows.Get (codes "method")
-check_response checks.NotPost = error_response statuses.MethodNotAllowed allows.Post (codes "method")
-check_response checks.TransferCoding = error_response statuses.NotImplemented allows.Any (codes "coding")
-check_response checks.LengthMissing = error_response statuses.LengthRequired allows.Any (codes "length")
-check_response checks.LengthInvalid = error_response statuses.BadRequest allows.Any (codes "length")
-check_response checks.ContentTooLarge = error_response statuses.PayloadTooLarge allows.Any (codes "size")
+unfoldable pub check_response : Rejection → Response
+check_response rejections.Host = error_response statuses.BadRequest allows.Absent (codes "host")
+check_response rejections.Path = error_response statuses.NotFound allows.Absent (codes "path")
+check_response rejections.NotGet = error_response statuses.MethodNotAllowed allows.Get (codes "method")
+check_response rejections.NotPost = error_response statuses.MethodNotAllowed allows.Post (codes "method")
+check_response rejections.TransferCoding = error_response statuses.NotImplemented allows.Absent (codes "coding")
+check_response rejections.LengthMissing = error_response statuses.LengthRequired allows.Absent (codes "length")
+check_response rejections.LengthInvalid = error_response statuses.BadRequest allows.Absent (codes "length")
+check_response rejections.ContentTooLarge = error_response statuses.PayloadTooLarge allows.Absent (codes "size")
 
 -- the answer where anything else fails that needs no number reported
 unfoldable pub failure_response : Failure → Response
-failure_response failures.Head = error_response statuses.BadRequest allows.Any (codes "head")
-failure_response failures.Body = error_response statuses.BadRequest allows.Any (codes "body")
-failure_response failures.Json = error_response statuses.BadRequest allows.Any (codes "json")
-failure_response failures.Memory = error_response statuses.ServiceUnavailable allows.Any (codes "memory")
-failure_response failures.Record = error_response statuses.NotFound allows.Any (codes "record")
-failure_response failures.Content = error_response statuses.NotFound allows.Any (codes "content")
-failure_response failures.Certificate = error_response statuses.NotFound allows.Any (codes "certificate")
-failure_response failures.Day = error_response statuses.BadRequest allows.Any (codes "day")
-failure_response failures.Count = error_response statuses.BadRequest allows.Any (codes "count")
+failure_response failures.Head = error_response statuses.BadRequest allows.Absent (codes "head")
+failure_response failures.Body = error_response statuses.BadRequest allows.Absent (codes "body")
+failure_response failures.Json = error_response statuses.BadRequest allows.Absent (codes "json")
+failure_response failures.Memory = error_response statuses.ServiceUnavailable allows.Absent (codes "memory")
+failure_response failures.Record = error_response statuses.NotFound allows.Absent (codes "record")
+failure_response failures.Content = error_response statuses.NotFound allows.Absent (codes "content")
+failure_response failures.Certificate = error_response statuses.NotFound allows.Absent (codes "certificate")
+failure_response failures.Day = error_response statuses.BadRequest allows.Absent (codes "day")
+failure_response failures.Count = error_response statuses.BadRequest allows.Absent (codes "count")

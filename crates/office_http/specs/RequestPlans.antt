@@ -10,30 +10,30 @@ use Rattle.office_days.specs.ConfirmCounts.{confirm_days_named}
 use Rattle.office_days.specs.Texts.{day_named}
 use Rattle.office_http.specs.Fields.{Values, missing, one, many, found_named}
 use Rattle.office_http.specs.Numbers.{content_length, segment_number}
-use Rattle.office_http.specs.Paths.{is_path, path_segment, resource_at}
-use Rattle.office_http.specs.declared.check.Check.TheVariants as checks
-use Rattle.office_http.specs.declared.paths.Resource.{Resource}
-use Rattle.office_http.specs.declared.paths.Resource.TheVariants as resources
+use Rattle.office_http.specs.Paths.{is_path, path_segment, route_at}
+use Rattle.office_http.specs.declared.rejection.Rejection.TheVariants as rejections
+use Rattle.office_http.specs.declared.paths.Route.{Route}
+use Rattle.office_http.specs.declared.paths.Route.TheVariants as named_routes
 use Rattle.office_http.specs.declared.request_plan.RequestPlan.{RequestPlan}
 use Rattle.office_http.specs.declared.request_plan.RequestPlan.TheVariants.{Acts, Refuse, Serve}
 use Rattle.office_http.specs.declared.path_request.PathRequest.TheVariants as requests
 
 -- the body's length is within the limit of 1,048,576 bytes
 abbrev pub sized_plan : Option ℕ → RequestPlan
-sized_plan None = Refuse checks.LengthInvalid
-sized_plan (Some size) = if nat_lt 1_048_576 size then Refuse checks.ContentTooLarge else Acts size
+sized_plan None = Refuse rejections.LengthInvalid
+sized_plan (Some size) = if nat_lt 1_048_576 size then Refuse rejections.ContentTooLarge else Acts size
 
 -- the body's length is said, by one field line
 abbrev pub length_plan : Values → RequestPlan
-length_plan missing = Refuse checks.LengthMissing
+length_plan missing = Refuse rejections.LengthMissing
 length_plan (one value) = sized_plan (content_length value)
-length_plan many = Refuse checks.LengthInvalid
+length_plan many = Refuse rejections.LengthInvalid
 
 -- the body has no transfer coding
 abbrev pub coding_plan : Values → Values → RequestPlan
 coding_plan missing lengths = length_plan lengths
-coding_plan (one value) lengths = Refuse checks.TransferCoding
-coding_plan many lengths = Refuse checks.TransferCoding
+coding_plan (one value) lengths = Refuse rejections.TransferCoding
+coding_plan many lengths = Refuse rejections.TransferCoding
 
 abbrev pub acts_plan : List (List ℕ × List ℕ) → RequestPlan
 acts_plan fields =
@@ -41,36 +41,36 @@ acts_plan fields =
 
 -- the method is GET
 abbrev pub get_plan : List ℕ → RequestPlan → RequestPlan
-get_plan method plan = if bytes_eq method (codes "GET") then plan else Refuse checks.NotGet
+get_plan method plan = if bytes_eq method (codes "GET") then plan else Refuse rejections.NotGet
 
 -- the method is POST
 abbrev pub post_plan : List ℕ → RequestPlan → RequestPlan
-post_plan method plan = if bytes_eq method (codes "POST") then plan else Refuse checks.NotPost
+post_plan method plan = if bytes_eq method (codes "POST") then plan else Refuse rejections.NotPost
 
 -- what is done for a method at a path that names this
-abbrev pub resource_plan : Resource → List ℕ → List ℕ → List (List ℕ × List ℕ) → RequestPlan
-resource_plan resources.Acts path method fields = post_plan method (acts_plan fields)
-resource_plan resources.OpenRun path method fields = post_plan method (Serve requests.Resume)
-resource_plan resources.Record path method fields =
+abbrev pub route_plan : Route → List ℕ → List ℕ → List (List ℕ × List ℕ) → RequestPlan
+route_plan named_routes.Acts path method fields = post_plan method (acts_plan fields)
+route_plan named_routes.Resume path method fields = post_plan method (Serve requests.Resume)
+route_plan named_routes.Record path method fields =
     get_plan method (Serve (requests.Record (segment_number (path_segment 2 path))))
-resource_plan resources.Content path method fields =
+route_plan named_routes.Content path method fields =
     get_plan method (Serve (requests.Content (segment_number (path_segment 2 path))))
-resource_plan resources.Due path method fields = get_plan method (Serve (requests.Due (day_named (path_segment 2 path))))
-resource_plan resources.Overdue path method fields =
+route_plan named_routes.Due path method fields = get_plan method (Serve (requests.Due (day_named (path_segment 2 path))))
+route_plan named_routes.Overdue path method fields =
     get_plan method
     (Serve (requests.Overdue (day_named (path_segment 2 path)) (result_ok (confirm_days_named (path_segment 3 path)))))
-resource_plan resources.Certificate path method fields =
+route_plan named_routes.Certificate path method fields =
     get_plan method (Serve (requests.Certificate (segment_number (path_segment 2 path))))
 
 -- the path names something
-abbrev pub path_plan : Option Resource → List ℕ → List ℕ → List (List ℕ × List ℕ) → RequestPlan
-path_plan None path method fields = Refuse checks.Path
-path_plan (Some resource) path method fields = resource_plan resource path method fields
+abbrev pub path_plan : Option Route → List ℕ → List ℕ → List (List ℕ × List ℕ) → RequestPlan
+path_plan None path method fields = Refuse rejections.Path
+path_plan (Some route) path method fields = route_plan route path method fields
 
 -- the target is a path without a query
 abbrev pub target_plan : List ℕ → List ℕ → List (List ℕ × List ℕ) → RequestPlan
 target_plan target method fields =
-    if is_path target then path_plan (resource_at target) target method fields else Refuse checks.Path
+    if is_path target then path_plan (route_at target) target method fields else Refuse rejections.Path
 
 abbrev pub is_one : Values → Bool
 is_one missing = false
@@ -85,7 +85,7 @@ has_host minor hosts = if minor == 1 then is_one hosts else true
 -- and length
 abbrev pub plan_of : List ℕ → List ℕ → ℕ → List (List ℕ × List ℕ) → RequestPlan
 plan_of method target minor fields =
-    if has_host minor (found_named (codes "host") fields) then target_plan target method fields else Refuse checks.Host
+    if has_host minor (found_named (codes "host") fields) then target_plan target method fields else Refuse rejections.Host
 
 -- the same, for a head
 abbrev pub plan_at : RequestHead → RequestPlan

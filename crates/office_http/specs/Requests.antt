@@ -7,7 +7,7 @@ use Rattle.httparse.specs.declared.spans.HeaderSpan.{HeaderSpan}
 use Rattle.httparse.specs.declared.spans.RequestSpans.{RequestSpans}
 use Rattle.httparse.specs.Spans.{IsRequestAt, IsRequestWithin}
 use Rattle.office_http.specs.declared.head.HeadParse.{HeadParse}
-use Rattle.office_http.specs.declared.head.HeadParse.TheVariants.{Whole, Part, Never}
+use Rattle.office_http.specs.declared.head.HeadParse.TheVariants.{Complete, Partial, Invalid}
 use Rattle.office_http.specs.declared.head.Head.{Head}
 use Rattle.office_http.specs.declared.head.Head.TheVariants.{Found, Missing, Empty}
 
@@ -38,10 +38,10 @@ IsHeadAt spans buf headers =
     IsRequestWithin buf headers spans × ((h : RequestHead) × IsRequestAt buf headers spans h × IsShort h)
 
 -- what a buffer reports of all bytes that may begin with it
-abbrev pub IsSeen : HeadParse → List ℕ → List HeaderSpan → Type 0
-IsSeen (Whole spans) buf headers = IsHeadAt spans buf headers
-IsSeen Part buf headers = HasNoRequest buf
-IsSeen Never buf headers = (more : List ℕ) → IsHeadless (buf ++ more)
+abbrev pub IsParsed : HeadParse → List ℕ → List HeaderSpan → Type 0
+IsParsed (Complete spans) buf headers = IsHeadAt spans buf headers
+IsParsed Partial buf headers = HasNoRequest buf
+IsParsed Invalid buf headers = (more : List ℕ) → IsHeadless (buf ++ more)
 
 -- where a head was found, it is in the buffer
 abbrev pub IsHeadOf : Head → List ℕ → List HeaderSpan → Type 0
@@ -57,11 +57,11 @@ IsRead Empty bytes = IsRequest nothing bytes
 
 -- where a head was found, what all bytes are: that head, then what the buffer has after it and what is left in the
 -- reader
-abbrev pub IsAsked : Head → List ℕ → List ℕ → List HeaderSpan → List ℕ → Type 0
-IsAsked (Found spans) bytes buf headers left =
+abbrev pub IsRequestFound : Head → List ℕ → List ℕ → List HeaderSpan → List ℕ → Type 0
+IsRequestFound (Found spans) bytes buf headers left =
     (h : RequestHead) × IsRequestAt buf headers spans h × IsRequest (asks h (drop spans.len buf ++ left)) bytes
-IsAsked Missing bytes buf headers left = Unit {0}
-IsAsked Empty bytes buf headers left = Unit {0}
+IsRequestFound Missing bytes buf headers left = Unit {0}
+IsRequestFound Empty bytes buf headers left = Unit {0}
 
 -- a connection was read into an empty buffer until its head was whole, or until there was none, by what is before and
 -- after in the reader
@@ -70,4 +70,4 @@ pub record ReadsHead (it : Head) (buf : List ℕ) (headers : List HeaderSpan) (b
     pub read : Consumes before after buf
     pub head : IfSome before (λ bytes. IsRead it bytes)
     pub spans : IsHeadOf it buf headers
-    pub asked : IfSome before (λ bytes. IfSome after (λ left. IsAsked it bytes buf headers left))
+    pub request : IfSome before (λ bytes. IfSome after (λ left. IsRequestFound it bytes buf headers left))

@@ -21,26 +21,26 @@ const INTERRUPTIONS: u32 = 1_000_000;
 
 /// What is left of the time for what began then; none where it is over. Both are readings of one
 /// clock.
-fn left(began: Duration, now: Duration) -> Option<Duration>
+fn remaining(began: Duration, now: Duration) -> Option<Duration>
     ensures over { IsNone result ↔ (LONGEST * 1_000_000_000 ≤ as_nanos now - as_nanos began) }
-    ensures left { IfSome result
+    ensures rest { IfSome result
         (λ it. as_nanos it ≡ LONGEST * 1_000_000_000 - (as_nanos now - as_nanos began)) }
 {
-    let left = Duration::from_secs(LONGEST).checked_sub(now.saturating_sub(began))?;
-    if left.is_zero() { None } else { Some(left) }
+    let rest = Duration::from_secs(LONGEST).checked_sub(now.saturating_sub(began))?;
+    if rest.is_zero() { None } else { Some(rest) }
 }
 
 /// A side of a connection, whose time begins as it is first read or written. It reports no bytes
 /// beforehand, as a socket does not. Contracts see a `Side`: the connection, and when its time
 /// began, once it has.
 #[derive(Drop)]
-pub struct Timed<'a, C, K> {
+pub struct DeadlineStream<'a, C, K> {
     stream: C,
     clock: &'a K,
     began: Option<Duration>,
 }
 
-impl<'a, C, K> Model for Timed<'a, C, K> {
+impl<'a, C, K> Model for DeadlineStream<'a, C, K> {
     ghost use Rattle.office_http.specs.Sides.{Side, side_code};
 
     ghost Value = { Side C };
@@ -50,13 +50,13 @@ impl<'a, C, K> Model for Timed<'a, C, K> {
     ghost view = { λ side. record { connection = side.stream; began = side.began } };
 }
 
-impl<'a, C: OpenStream, K: Clock> Timed<'a, C, K> {
+impl<'a, C: OpenStream, K: Clock> DeadlineStream<'a, C, K> {
     /// A side of that connection, by that clock. Its time has not begun.
-    pub fn new(stream: C, clock: &'a K) -> Timed<'a, C, K>
+    pub fn new(stream: C, clock: &'a K) -> DeadlineStream<'a, C, K>
         ensures connection { result.connection ≡ stream }
         ensures waits { result.began ≡ None }
     {
-        Timed {
+        DeadlineStream {
             stream,
             clock,
             began: None,
@@ -71,7 +71,7 @@ impl<'a, C: OpenStream, K: Clock> Timed<'a, C, K> {
     }
 
     /// What is left of its time, which begins with the first call.
-    fn left(&mut self) -> io::Result<Duration>
+    fn remaining(&mut self) -> io::Result<Duration>
         ensures most { IfOk result (λ it. as_nanos it ≤ LONGEST * 1_000_000_000) }
         ensures begun { OnOk result (IsSome self.new.began) }
         ensures kept { IfSome self.old.began (λ then. self.new.began ≡ Some then) }
@@ -79,36 +79,36 @@ impl<'a, C: OpenStream, K: Clock> Timed<'a, C, K> {
         let now = self.clock.monotonic()?;
         let began = self.began.unwrap_or(now);
         self.began = Some(began);
-        match left(began, now) {
-            Some(left) => Ok(left),
+        match remaining(began, now) {
+            Some(remaining) => Ok(remaining),
             None => Err(io::Error::from(ErrorKind::TimedOut)),
         }
     }
 }
 
-impl<'a, C: Read + OpenStream, K: Clock> Timed<'a, C, K> {
+impl<'a, C: Read + OpenStream, K: Clock> DeadlineStream<'a, C, K> {
     /// Reads once, for as long as time is left.
     fn read_once(&mut self, buf: &mut [u8]) -> io::Result<usize>
         ensures { ReadsAtMost result buf.new }
     {
-        let left = self.left()?;
-        self.stream.set_read_timeout(Some(left))?;
+        let remaining = self.remaining()?;
+        self.stream.set_read_timeout(Some(remaining))?;
         self.stream.read(buf)
     }
 }
 
-impl<'a, C: Write + OpenStream, K: Clock> Timed<'a, C, K> {
+impl<'a, C: Write + OpenStream, K: Clock> DeadlineStream<'a, C, K> {
     /// Writes once, for as long as time is left.
     fn write_once(&mut self, buf: &[u8]) -> io::Result<usize>
         ensures { WritesAtMost result buf.now }
     {
-        let left = self.left()?;
-        self.stream.set_write_timeout(Some(left))?;
+        let remaining = self.remaining()?;
+        self.stream.set_write_timeout(Some(remaining))?;
         self.stream.write(buf)
     }
 }
 
-impl<'a, C: Read + OpenStream, K: Clock> Read for Timed<'a, C, K> {
+impl<'a, C: Read + OpenStream, K: Clock> Read for DeadlineStream<'a, C, K> {
     /// A read that was interrupted is asked again while time is left.
     fn read(&mut self, buf: &mut [u8]) -> io::Result<usize>
         ensures bound { ReadsAtMost result buf.new }
@@ -129,7 +129,7 @@ impl<'a, C: Read + OpenStream, K: Clock> Read for Timed<'a, C, K> {
     }
 }
 
-impl<'a, C: Write + OpenStream, K: Clock> Write for Timed<'a, C, K> {
+impl<'a, C: Write + OpenStream, K: Clock> Write for DeadlineStream<'a, C, K> {
     /// A write that was interrupted is asked again while time is left.
     fn write(&mut self, buf: &[u8]) -> io::Result<usize>
         ensures bound { WritesAtMost result buf.now }

@@ -2,7 +2,7 @@
 ghost use Rattle.std.specs.Prelude.{◌≡◌, ◌≢◌, ℕ, ◌+◌, ◌≤◌, ◌<◌, List, [], ◌++◌, length, IfOk, OnOk};
 ghost use Rattle.std.specs.Io.KnownBytes.{Consumes, IsAtEnd};
 ghost use Rattle.std.specs.Vec.{vec_capacity};
-ghost use Rattle.office_http.specs.Requests.{IsSeen, ReadsHead, Request, IsRequest};
+ghost use Rattle.office_http.specs.Requests.{IsParsed, ReadsHead, Request, IsRequest};
 
 use httparse::Status;
 use httparse::spans::{HeaderSpan, RequestSpans, parse_request};
@@ -13,11 +13,11 @@ use std::io::Read;
 #[derive(Clone, Copy)]
 pub(crate) enum HeadParse {
     /// It begins with a whole head, whose parts lie there.
-    Whole(RequestSpans),
+    Complete(RequestSpans),
     /// It has no whole head yet.
-    Part,
+    Partial,
     /// It will never begin with a head within the limits.
-    Never,
+    Invalid,
 }
 
 /// What the bytes of a connection begin with.
@@ -41,29 +41,29 @@ pub const MOST_FIELDS: usize = 64;
 const PIECE: usize = 4_096;
 
 /// What a buffer reports of a head.
-fn see(buf: &[u8], headers: &mut [HeaderSpan]) -> HeadParse
+fn parse_head(buf: &[u8], headers: &mut [HeaderSpan]) -> HeadParse
     requires short { length buf.now ≤ 16_384 }
     requires room { length headers.old ≡ 64 }
-    ensures { IsSeen result buf.now headers.new }
+    ensures { IsParsed result buf.now headers.new }
 {
     match parse_request(buf, headers) {
-        Ok(Status::Complete(head)) => HeadParse::Whole(head),
-        Ok(Status::Partial) => HeadParse::Part,
-        Err(_) => HeadParse::Never,
+        Ok(Status::Complete(head)) => HeadParse::Complete(head),
+        Ok(Status::Partial) => HeadParse::Partial,
+        Err(_) => HeadParse::Invalid,
     }
 }
 
 /// The same, also of no bytes.
-fn see_any(buf: &[u8], headers: &mut [HeaderSpan]) -> HeadParse
+fn parse_any(buf: &[u8], headers: &mut [HeaderSpan]) -> HeadParse
     requires short { length buf.now ≤ 16_384 }
     requires room { length headers.old ≡ 64 }
-    ensures seen { IsSeen result buf.now headers.new }
-    ensures some { result ≡ HeadParse.Never → buf.now ≢ [] }
+    ensures parsed { IsParsed result buf.now headers.new }
+    ensures some { result ≡ HeadParse.Invalid → buf.now ≢ [] }
 {
     if buf.is_empty() {
-        HeadParse::Part
+        HeadParse::Partial
     } else {
-        see(buf, headers)
+        parse_head(buf, headers)
     }
 }
 
@@ -112,10 +112,10 @@ pub fn read_head<R: Read>(
         (R.remaining reader.old) (R.remaining reader.new)) }
 {
     loop {
-        match see_any(buf.as_slice(), headers) {
-            HeadParse::Whole(head) => return Ok(Head::Found(head)),
-            HeadParse::Never => return Ok(Head::Missing),
-            HeadParse::Part => {}
+        match parse_any(buf.as_slice(), headers) {
+            HeadParse::Complete(head) => return Ok(Head::Found(head)),
+            HeadParse::Invalid => return Ok(Head::Missing),
+            HeadParse::Partial => {}
         }
         if buf.len() >= LONGEST_HEAD {
             return Ok(Head::Missing);

@@ -1,7 +1,7 @@
 //! The paths of the office: their routes, and what each names.
 ghost use Rattle.std.specs.Prelude.{◌≡◌, ◌==◌, IfOk, true, false, MatchOption};
 ghost use Rattle.std.specs.List.{list_any};
-ghost use Rattle.office_http.specs.Paths.{RouteList, is_path, office_routes, path_segment, resource_at, with_route};
+ghost use Rattle.office_http.specs.Paths.{RouteList, is_path, office_routes, path_segment, route_at, with_route};
 
 use matchit::Router;
 use std::alloc::{AllocError, Global};
@@ -9,11 +9,11 @@ use std::marker::Model;
 
 /// What a path names.
 #[derive(Clone, Copy, Drop)]
-pub(crate) enum Resource {
+pub(crate) enum Route {
     /// The acts that are handed in.
     Acts,
-    /// The run that is open.
-    OpenRun,
+    /// The resumption of the run that is open.
+    Resume,
     /// A record.
     Record,
     /// The content of a record.
@@ -29,13 +29,13 @@ pub(crate) enum Resource {
 /// The routes with one more.
 #[tactic(auto, using(crate::proofs::RouteLemmas::route_inserted))]
 fn with_route(
-    mut router: Router<Resource>,
-    route: &str,
-    resource: Resource,
-) -> Result<Router<Resource>, AllocError>
-    ensures { IfOk result (λ longer. longer ≡ with_route route.now resource router) }
+    mut router: Router<Route>,
+    path: &str,
+    route: Route,
+) -> Result<Router<Route>, AllocError>
+    ensures { IfOk result (λ longer. longer ≡ with_route path.now route router) }
 {
-    match router.insert(route, resource) {
+    match router.insert(path, route) {
         Ok(()) => Ok(router),
         Err(_) => Err(AllocError),
     }
@@ -43,23 +43,23 @@ fn with_route(
 
 /// The routes of all paths that there are.
 #[tactic(auto, unfolding(crate::specs::Paths::office_routes))]
-fn office_router(alloc: Global) -> Result<Router<Resource>, AllocError>
+fn office_router(alloc: Global) -> Result<Router<Route>, AllocError>
     ensures { IfOk result (λ router. router ≡ office_routes) }
 {
-    let router = with_route(Router::new(alloc), "/acts", Resource::Acts)?;
-    let router = with_route(router, "/run/resume", Resource::OpenRun)?;
-    let router = with_route(router, "/records/{n}", Resource::Record)?;
-    let router = with_route(router, "/records/{n}/content", Resource::Content)?;
-    let router = with_route(router, "/due/{day}", Resource::Due)?;
-    let router = with_route(router, "/overdue/{day}/{count}", Resource::Overdue)?;
-    with_route(router, "/certificates/{n}", Resource::Certificate)
+    let router = with_route(Router::new(alloc), "/acts", Route::Acts)?;
+    let router = with_route(router, "/run/resume", Route::Resume)?;
+    let router = with_route(router, "/records/{n}", Route::Record)?;
+    let router = with_route(router, "/records/{n}/content", Route::Content)?;
+    let router = with_route(router, "/due/{day}", Route::Due)?;
+    let router = with_route(router, "/overdue/{day}/{count}", Route::Overdue)?;
+    with_route(router, "/certificates/{n}", Route::Certificate)
 }
 
 /// The paths that the office answers, and what each names. They are made once; to look a path up
 /// takes no memory.
 #[derive(Drop)]
 pub struct Routes {
-    router: Router<Resource>,
+    router: Router<Route>,
 }
 
 impl Model for Routes {
@@ -80,8 +80,8 @@ impl Routes {
     }
 
     /// What a path names.
-    pub(crate) fn resource_at(&self, path: &str) -> Option<Resource>
-        ensures { result ≡ resource_at path.now }
+    pub(crate) fn route_at(&self, path: &str) -> Option<Route>
+        ensures { result ≡ route_at path.now }
     {
         match self.router.at(path) {
             Ok(found) => Some(*found.value),

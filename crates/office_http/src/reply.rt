@@ -4,22 +4,22 @@ ghost use Rattle.office_http.specs.Replies.{body_bytes};
 
 use crate::status::Status;
 
-/// What the body of an answer is.
+/// What the body of an answer is, as the field `Content-Type` reports it.
 #[derive(Clone, Copy, PartialEq, Eq, Debug)]
-pub enum Kind {
+pub enum MediaType {
     /// JSON.
     Json,
-    /// Bytes of no kind that the office knows.
+    /// Bytes of no type that the office knows.
     Octets,
     /// Plain text in UTF-8.
     Plain,
 }
 
-/// The method that a path takes, which is reported where another came.
+/// The field `Allow`: the method that a path takes, where another came.
 #[derive(Clone, Copy, PartialEq, Eq, Debug)]
 pub enum Allow {
-    /// Nothing is reported.
-    Any,
+    /// No such field.
+    Absent,
     /// GET.
     Get,
     /// POST.
@@ -54,7 +54,7 @@ impl Body {
 #[derive(Drop)]
 pub struct Reply {
     pub status: Status,
-    pub kind: Kind,
+    pub media_type: MediaType,
     pub allow: Allow,
     pub body: Body,
 }

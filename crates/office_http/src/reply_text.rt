@@ -4,23 +4,23 @@ ghost use Rattle.std.specs.Io.KnownBytes.{Appends};
 ghost use Rattle.office_base.specs.Output.{AppendsSome};
 ghost use Rattle.httparse.specs.Grammar.{ReadsResponse};
 ghost use Rattle.office_http.specs.Messages.{message_head};
-ghost use Rattle.office_http.specs.Replies.{Response, allow_line, head_end, head_start, head_text, kind_line, response, response_text, status_number};
+ghost use Rattle.office_http.specs.Replies.{Response, allow_line, head_end, head_start, head_text, media_type_line, response, response_text, status_number};
 
-use crate::reply::{Allow, Kind, Reply};
+use crate::reply::{Allow, MediaType, Reply};
 use crate::status::Status;
 use itoa::Buffer;
 use office_base::{Io, put_bytes, put_parts};
 use std::io::Write;
 
 /// The line of the media type.
-#[tactic(auto, unfolding(crate::specs::Replies::kind_line))]
-fn kind_text(kind: Kind) -> &'static str
-    ensures { result.now ≡ kind_line kind }
+#[tactic(auto, unfolding(crate::specs::Replies::media_type_line))]
+fn media_type_line(media_type: MediaType) -> &'static str
+    ensures { result.now ≡ media_type_line media_type }
 {
-    match kind {
-        Kind::Json => "Content-Type: application/json\r\n",
-        Kind::Octets => "Content-Type: application/octet-stream\r\n",
-        Kind::Plain => "Content-Type: text/plain; charset=utf-8\r\n",
+    match media_type {
+        MediaType::Json => "Content-Type: application/json\r\n",
+        MediaType::Octets => "Content-Type: application/octet-stream\r\n",
+        MediaType::Plain => "Content-Type: text/plain; charset=utf-8\r\n",
     }
 }
 
@@ -30,19 +30,19 @@ fn allow_text(allow: Allow) -> &'static str
     ensures { result.now ≡ allow_line allow }
 {
     match allow {
-        Allow::Any => "",
+        Allow::Absent => "",
         Allow::Get => "Allow: GET\r\n",
         Allow::Post => "Allow: POST\r\n",
     }
 }
 
-/// Writes the first lines of a head: the status, and the kind of the body.
+/// Writes the first lines of a head: the status, and the media type.
 #[tactic(auto, unfolding(crate::specs::Replies::status_words))]
-fn put_start<W: Write>(writer: &mut W, status: Status, kind: Kind) -> Result<(), Io>
+fn put_start<W: Write>(writer: &mut W, status: Status, media_type: MediaType) -> Result<(), Io>
     ensures ok { OnOk result
-        (Appends (W.contents writer.old) (W.contents writer.new) (head_start status kind)) }
+        (Appends (W.contents writer.old) (W.contents writer.new) (head_start status media_type)) }
     ensures err { OnErr result
-        (AppendsSome (W.contents writer.old) (W.contents writer.new) (head_start status kind)) }
+        (AppendsSome (W.contents writer.old) (W.contents writer.new) (head_start status media_type)) }
 {
     let mut digits = Buffer::new();
     put_parts(
@@ -52,7 +52,7 @@ fn put_start<W: Write>(writer: &mut W, status: Status, kind: Kind) -> Result<(),
             b" ",
             status.phrase().as_bytes(),
             b"\r\n",
-            kind_text(kind).as_bytes(),
+            media_type_line(media_type).as_bytes(),
         ],
         writer,
     )
@@ -82,11 +82,11 @@ fn put_end<W: Write>(writer: &mut W, size: usize, allow: Allow) -> Result<(), Io
 #[tactic(auto, using(crate::proofs::Appending::appends_then))]
 fn put_head<W: Write>(writer: &mut W, reply: &Reply, size: usize) -> Result<(), Io>
     ensures ok { OnOk result (Appends (W.contents writer.old) (W.contents writer.new)
-        (head_text reply.now.status reply.now.kind size reply.now.allow)) }
+        (head_text reply.now.status reply.now.media_type size reply.now.allow)) }
     ensures err { OnErr result (AppendsSome (W.contents writer.old) (W.contents writer.new)
-        (head_text reply.now.status reply.now.kind size reply.now.allow)) }
+        (head_text reply.now.status reply.now.media_type size reply.now.allow)) }
 {
-    put_start(writer, reply.status, reply.kind)?;
+    put_start(writer, reply.status, reply.media_type)?;
     put_end(writer, size, reply.allow)
 }
 

@@ -4,14 +4,14 @@ ghost use Rattle.httparse.specs.Grammar.{RequestHead};
 ghost use Rattle.httparse.specs.Spans.{IsRequestAt};
 ghost use Rattle.office_http.specs.RequestPlans.{IsSized};
 ghost use Rattle.office_http.specs.Requests.{IsHeadAt};
-ghost use Rattle.office_http.specs.Receiving.{AsksFor, IsAskedBy, IsOutOfMemoryFor, Receives, body_wanted, plan_wanted};
+ghost use Rattle.office_http.specs.Receiving.{IsOperationWanted, IsParsedFrom, IsOutOfMemoryFor, Receives, body_wanted, plan_wanted};
 
 use crate::acts_body::ActsBody;
 use crate::body::read_body;
-use crate::check::Check;
 use crate::head::{Head, LONGEST_HEAD, MOST_FIELDS, read_head};
 use crate::path_request::PathRequest;
 use crate::paths::Routes;
+use crate::rejection::Rejection;
 use crate::request_plan::{RequestPlan, is_head_in, plan_in};
 use httparse::spans::{HeaderSpan, RequestSpans};
 use office_base::{Io, Stop};
@@ -22,7 +22,7 @@ use std::io::Read;
 #[derive(Drop)]
 pub enum Operation {
     /// Nothing, since a check of its head fails.
-    Refused(Check),
+    Refused(Rejection),
     /// Nothing, since the connection ends before the body does.
     Cut,
     /// The acts of a body, which may be none.
@@ -72,7 +72,7 @@ fn receive_acts<R: Read>(
     requires start_in { start ≤ length buf.items }
     requires small { start ≤ 16_384 }
     requires limit { size ≤ 1_048_576 }
-    ensures { AsksFor (body_wanted size) (drop start buf.items) (R.remaining reader.old) result }
+    ensures { IsOperationWanted (body_wanted size) (drop start buf.items) (R.remaining reader.old) result }
 {
     let end = start + size as usize;
     if read_body(reader, &mut buf, start, end)? {
@@ -92,7 +92,7 @@ fn receive_planned<R: Read>(
     requires start_in { start ≤ length buf.items }
     requires small { start ≤ 16_384 }
     requires sized { IsSized plan }
-    ensures asked { AsksFor (plan_wanted plan) (drop start buf.items) (R.remaining reader.old)
+    ensures wanted { IsOperationWanted (plan_wanted plan) (drop start buf.items) (R.remaining reader.old)
         result }
     ensures memory { result ≡ Err Stop.Memory
         → (size : ℕ) × (plan ≡ RequestPlan.Acts size) }
@@ -116,7 +116,7 @@ fn receive_rest<R: Read>(
     ensures ok { IfOk result
         (λ it. IfSome (R.remaining reader.old)
         (λ left. (h : RequestHead) → IsRequestAt buf.items headers.now head.now h
-        → IsAskedBy h (drop head.now.len buf.items ++ left) it)) }
+        → IsParsedFrom h (drop head.now.len buf.items ++ left) it)) }
     ensures err { IfErr result
         (λ stop. (h : RequestHead) → IsRequestAt buf.items headers.now head.now h
         → IsOutOfMemoryFor h stop) }
@@ -148,8 +148,8 @@ pub fn receive<R: Read>(
     let mut headers = [HeaderSpan::default(); MOST_FIELDS];
     match read_head(reader, &mut buf, &mut headers) {
         Ok(Head::Found(head)) => {
-            let asked = receive_rest(routes, reader, buf, &head, &headers)?;
-            Ok(Received::Request(asked))
+            let request = receive_rest(routes, reader, buf, &head, &headers)?;
+            Ok(Received::Request(request))
         }
         Ok(Head::Missing) => Ok(Received::Headless),
         Ok(Head::Empty) => Ok(Received::Nothing),

@@ -2,14 +2,14 @@
 ghost use Rattle.std.specs.Prelude.{◌≡◌, ℕ, ◌≤◌, List, length, map, take, codes, All};
 ghost use Rattle.httparse.specs.Spans.{header_bytes, span_bytes, IsHeaderWithin, IsRequestWithin};
 ghost use Rattle.office_http.specs.Fields.{found_named};
-ghost use Rattle.office_http.specs.RequestPlans.{acts_plan, get_plan, has_host, is_head_method, length_plan, plan_of, resource_plan, sized_plan, target_plan, IsPlanned, IsSized};
+ghost use Rattle.office_http.specs.RequestPlans.{acts_plan, get_plan, has_host, is_head_method, length_plan, plan_of, route_plan, sized_plan, target_plan, IsPlanned, IsSized};
 
-use crate::check::Check;
 use crate::fields::{Found, find_named};
 use crate::method::is_method;
 use crate::numbers::{content_length, segment_number};
 use crate::path_request::PathRequest;
-use crate::paths::{Resource, Routes, path_of, path_segment};
+use crate::paths::{Route, Routes, path_of, path_segment};
+use crate::rejection::Rejection;
 use http::Method;
 use httparse::spans::{HeaderSpan, RequestSpans};
 use office_days::{Day, read_confirm_days};
@@ -18,7 +18,7 @@ use office_days::{Day, read_confirm_days};
 #[derive(Clone, Copy, PartialEq, Eq, Debug)]
 pub enum RequestPlan {
     /// A check fails, and its answer is given.
-    Refuse(Check),
+    Refuse(Rejection),
     /// The acts in a body of that many bytes are performed.
     Acts(u64),
     /// What the path asks for is done.
@@ -31,8 +31,8 @@ fn sized_plan(size: Option<u64>) -> RequestPlan
     ensures sized { IsSized result }
 {
     match size {
-        None => RequestPlan::Refuse(Check::LengthInvalid),
-        Some(size) if size > 1_048_576 => RequestPlan::Refuse(Check::ContentTooLarge),
+        None => RequestPlan::Refuse(Rejection::LengthInvalid),
+        Some(size) if size > 1_048_576 => RequestPlan::Refuse(Rejection::ContentTooLarge),
         Some(size) => RequestPlan::Acts(size),
     }
 }
@@ -46,9 +46,9 @@ fn length_plan(buf: &[u8], headers: &[HeaderSpan]) -> RequestPlan
     ensures sized { IsSized result }
 {
     match find_named(buf, headers, b"content-length") {
-        Found::Missing => RequestPlan::Refuse(Check::LengthMissing),
+        Found::Missing => RequestPlan::Refuse(Rejection::LengthMissing),
         Found::One(value) => sized_plan(content_length(value.of(buf))),
-        Found::Many => RequestPlan::Refuse(Check::LengthInvalid),
+        Found::Many => RequestPlan::Refuse(Rejection::LengthInvalid),
     }
 }
 
@@ -60,7 +60,7 @@ fn acts_plan(buf: &[u8], headers: &[HeaderSpan]) -> RequestPlan
 {
     match find_named(buf, headers, b"transfer-encoding") {
         Found::Missing => length_plan(buf, headers),
-        _ => RequestPlan::Refuse(Check::TransferCoding),
+        _ => RequestPlan::Refuse(Rejection::TransferCoding),
     }
 }
 
@@ -71,41 +71,38 @@ fn get_plan(method: &[u8], request: PathRequest) -> RequestPlan
     if is_method(method, &Method::GET) {
         RequestPlan::Serve(request)
     } else {
-        RequestPlan::Refuse(Check::NotGet)
+        RequestPlan::Refuse(Rejection::NotGet)
     }
 }
 
 /// What is done for a method at a path that names this.
-fn resource_plan(
+fn route_plan(
     buf: &[u8],
     headers: &[HeaderSpan],
-    resource: Resource,
+    route: Route,
     path: &str,
     method: &[u8],
 ) -> RequestPlan
     requires { All (IsHeaderWithin (length buf.now)) headers.now }
     ensures plan { result
-        ≡ resource_plan resource path.now method.now (map (header_bytes buf.now) headers.now) }
+        ≡ route_plan route path.now method.now (map (header_bytes buf.now) headers.now) }
     ensures sized { IsSized result }
 {
     let segment = path_segment(path, 2);
-    match resource {
-        Resource::Acts if is_method(method, &Method::POST) => acts_plan(buf, headers),
-        Resource::OpenRun if is_method(method, &Method::POST) => RequestPlan::Serve(
+    match route {
+        Route::Acts if is_method(method, &Method::POST) => acts_plan(buf, headers),
+        Route::Resume if is_method(method, &Method::POST) => RequestPlan::Serve(
             PathRequest::Resume,
         ),
-        Resource::Acts | Resource::OpenRun => RequestPlan::Refuse(Check::NotPost),
-        Resource::Record => get_plan(method, PathRequest::Record(segment_number(segment))),
-        Resource::Content => get_plan(method, PathRequest::Content(segment_number(segment))),
-        Resource::Due => get_plan(method, PathRequest::Due(Day::read(segment))),
-        Resource::Overdue => {
+        Route::Acts | Route::Resume => RequestPlan::Refuse(Rejection::NotPost),
+        Route::Record => get_plan(method, PathRequest::Record(segment_number(segment))),
+        Route::Content => get_plan(method, PathRequest::Content(segment_number(segment))),
+        Route::Due => get_plan(method, PathRequest::Due(Day::read(segment))),
+        Route::Overdue => {
             let days = read_confirm_days(path_segment(path, 3)).ok();
             get_plan(method, PathRequest::Overdue(Day::read(segment), days))
         }
-        Resource::Certificate => get_plan(
-            method,
-            PathRequest::Certificate(segment_number(segment)),
-        ),
+        Route::Certificate => get_plan(method, PathRequest::Certificate(segment_number(segment))),
     }
 }
 
@@ -123,11 +120,11 @@ fn target_plan(
     ensures sized { IsSized result }
 {
     let Some(path) = path_of(target) else {
-        return RequestPlan::Refuse(Check::Path);
+        return RequestPlan::Refuse(Rejection::Path);
     };
-    match routes.resource_at(path) {
-        None => RequestPlan::Refuse(Check::Path),
-        Some(resource) => resource_plan(buf, headers, resource, path, method),
+    match routes.route_at(path) {
+        None => RequestPlan::Refuse(Rejection::Path),
+        Some(route) => route_plan(buf, headers, route, path, method),
     }
 }
 
@@ -159,7 +156,7 @@ pub fn plan_in(
     if has_host(buf, headers, head.version) {
         target_plan(routes, buf, headers, head.path.of(buf), head.method.of(buf))
     } else {
-        RequestPlan::Refuse(Check::Host)
+        RequestPlan::Refuse(Rejection::Host)
     }
 }
 

@@ -1,4 +1,4 @@
--- The answers of HTTP to what is asked of the office. Source: own; statuses are those of RFC 9110 section 15.
+-- The replies of HTTP to the requests at the office. Source: own; statuses are those of RFC 9110 section 15.
 use Rattle.std.specs.Prelude.{ℕ, Bool, List, Option, Some, None, if◌then◌else◌}
 use Rattle.std.specs.List.{list_any}
 use Rattle.serde_json.specs.Data.{Data}
@@ -19,13 +19,13 @@ use Rattle.office_json.specs.Replies.{answers_data, bad_act_data, fault_data, st
 use Rattle.office_http.specs.Replies.{Response, failure_response}
 use Rattle.office_http.specs.declared.failure.Failure.TheVariants as failure
 use Rattle.office_http.specs.declared.reply.Allow.TheVariants as allow
-use Rattle.office_http.specs.declared.reply.Kind.TheVariants as kind
+use Rattle.office_http.specs.declared.reply.MediaType.TheVariants as media_type
 use Rattle.office_http.specs.declared.status.Status.{Status}
 use Rattle.office_http.specs.declared.status.Status.TheVariants as status
 
 -- an answer whose body is the text of a value in JSON
 unfoldable pub json_response : Status → Data → Response
-json_response code value = record { status = code; kind = kind.Json; allow = allow.Any; body = compact_text value }
+json_response code value = record { status = code; media_type = media_type.Json; allow = allow.Absent; body = compact_text value }
 
 -- the status of what was answered: 409 where it is refused, else 200
 abbrev pub answered_status : Bool → Status
@@ -67,9 +67,9 @@ overdue_response n rows = json_response status.Ok (overdue_data n rows)
 -- a content; 404 where there is none
 abbrev pub content_response : Option (List ℕ) → Response
 content_response None = failure_response failure.Content
-content_response (Some bytes) = record { status = status.Ok; kind = kind.Octets; allow = allow.Any; body = bytes }
+content_response (Some bytes) = record { status = status.Ok; media_type = media_type.Octets; allow = allow.Absent; body = bytes }
 
 -- a certificate; 404 where there is none
 abbrev pub certificate_response : Option (List ℕ) → Response
 certificate_response None = failure_response failure.Certificate
-certificate_response (Some text) = record { status = status.Ok; kind = kind.Plain; allow = allow.Any; body = text }
+certificate_response (Some text) = record { status = status.Ok; media_type = media_type.Plain; allow = allow.Absent; body = text }

@@ -5,7 +5,7 @@ ghost use Rattle.office_wire.specs.Connections.{Ends, ServesAll, Turn, has_faile
 use crate::exchange::serve_with;
 use office_base::{Io, Memory, is_interrupted};
 use office_desk::Desk;
-use office_http::{Routes, Timed};
+use office_http::{DeadlineStream, Routes};
 use sqlite::Alter;
 use std::alloc::Global;
 use std::io::{BufWriter, Read, Write};
@@ -69,10 +69,14 @@ fn writer_of<'a, C: Write + OpenStream + Drop, K: Clock>(
     alloc: Global,
     stream: &C,
     clock: &'a K,
-) -> io::Result<BufWriter<Timed<'a, C, K>>> {
-    match BufWriter::new(alloc, Timed::new(stream.try_clone()?, clock)) {
+) -> io::Result<BufWriter<DeadlineStream<'a, C, K>>> {
+    match BufWriter::new(alloc, DeadlineStream::new(stream.try_clone()?, clock)) {
         Ok(writer) => Ok(writer),
-        Err(_) => BufWriter::with_capacity(alloc, 0, Timed::new(stream.try_clone()?, clock)),
+        Err(_) => BufWriter::with_capacity(
+            alloc,
+            0,
+            DeadlineStream::new(stream.try_clone()?, clock),
+        ),
     }
 }
 
@@ -89,7 +93,7 @@ fn serve_stream<C: Read + Write + OpenStream + Drop, K: Clock, S: Alter>(
     let Ok(mut writer) = writer_of(alloc, &stream, clock) else {
         return Err(Io);
     };
-    let mut reader = Timed::new(stream, clock);
+    let mut reader = DeadlineStream::new(stream, clock);
     let status = serve_with(alloc, routes, desk, &mut reader, &mut writer)?;
     if writer.flush().is_err() {
         return Err(Io);

@@ -1,4 +1,4 @@
-//! The answers of HTTP to what is asked of the office.
+//! The replies of HTTP to the requests at the office.
 ghost use Rattle.std.specs.Prelude.{◌≡◌, false, IfOk, map, option_map, string_bytes};
 ghost use Rattle.std.specs.Option.{option_copied};
 ghost use Rattle.serde_json.specs.View.{view};
@@ -11,7 +11,7 @@ ghost use Rattle.office_wire.specs.Replies.{acts_response, answer_response, answ
 use office_base::{Memory, Refusal};
 use office_days::ConfirmDays;
 use office_desk::DueRows;
-use office_http::{Allow, Body, Failure, Kind, Reply, Status, failure_reply};
+use office_http::{Allow, Body, Failure, MediaType, Reply, Status, failure_reply};
 use office_json::{
     answer_value, answers_value, bad_act_value, due_row_value, due_value, fault_value,
     overdue_row_value, overdue_value, record_value, stopped_value, text_of,
@@ -30,8 +30,8 @@ fn json_reply(alloc: Global, status: Status, value: &Value) -> Result<Reply, Mem
     let text = text_of(alloc, value)?;
     Ok(Reply {
         status,
-        kind: Kind::Json,
-        allow: Allow::Any,
+        media_type: MediaType::Json,
+        allow: Allow::Absent,
         body: Body::Text(text),
     })
 }
@@ -162,8 +162,8 @@ pub(crate) fn content_reply(content: Option<Vec<u8>>) -> Reply
         None => failure_reply(Failure::Content),
         Some(bytes) => Reply {
             status: Status::Ok,
-            kind: Kind::Octets,
-            allow: Allow::Any,
+            media_type: MediaType::Octets,
+            allow: Allow::Absent,
             body: Body::Bytes(bytes),
         },
     }
@@ -178,8 +178,8 @@ pub(crate) fn certificate_reply(certificate: Option<String>) -> Reply
         None => failure_reply(Failure::Certificate),
         Some(text) => Reply {
             status: Status::Ok,
-            kind: Kind::Plain,
-            allow: Allow::Any,
+            media_type: MediaType::Plain,
+            allow: Allow::Absent,
             body: Body::Text(text),
         },
     }

@@ -1,8 +1,8 @@
-//! The checks that the head of a request must pass.
+//! Why the head of a request is rejected.
 
-/// A check that the head of a request does not pass.
+/// The check that the head of a request does not pass.
 #[derive(Clone, Copy, PartialEq, Eq, Debug)]
-pub enum Check {
+pub enum Rejection {
     /// HTTP/1.1 without exactly one Host line.
     Host,
     /// A target that names nothing, or has a query.
