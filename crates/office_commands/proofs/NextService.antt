@@ -25,7 +25,7 @@ use Rattle.office_desk.specs.Resumptions.{none_open, run_closed, run_stopped}
 use Rattle.office_desk.proofs.Found.{after-append}
 use Rattle.office_desk.proofs.StepFates.{after_run, run_steps}
 use Rattle.office_json.specs.Lists.{NoActs, acts_in, bad_act, not_json}
-use Rattle.office_wire.specs.Answering.{AnyAnswer, PerformsAsked, Resumes, Serves}
+use Rattle.office_wire.specs.Answering.{AnyAnswer, PerformsActs, Resumes, Serves}
 use Rattle.office_wire.specs.Connections.{Turn, Turns}
 use Rattle.office_wire.specs.Serving.{LeavesServed}
 use Rattle.office_http.specs.Receiving.{Wanted, acts, cut, refused, requested}
@@ -86,7 +86,7 @@ module _ (stay : StaySound) (ends : IsEnded) {S : Type 0} (g : Ghosts S) where
         let sound_at = λ (k : ℕ). sound_acts stay (take k done) t sound (well_formed_prefix k done it.formed) in
         stop_served t (after_acts t (take n done)) (after_acts t (take (n + 1) done)) (prefix_to n t done it.formed) (prefix_to (n + 1) t done it.formed) (sound_at n) (sound_at (n + 1)) f d leads it.leaves
 
-    acts_served : (asked : Result (List Act) NoActs) → PerformsAsked AnyAnswer g t asked d → ServedAt t d
+    acts_served : (asked : Result (List Act) NoActs) → PerformsActs AnyAnswer g t asked d → ServedAt t d
     acts_served (Ok done) it = outcome_served done it.outcome it.leads it.came
     acts_served (Err not_json) it = as_it_was t d it.1
     acts_served (Err (bad_act place why)) it = as_it_was t d it.1

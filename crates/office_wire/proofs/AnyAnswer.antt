@@ -6,7 +6,7 @@ use Rattle.office_rules.specs.declared.act.Act.{Act}
 use Rattle.office_desk.specs.Desk.{DeskState}
 use Rattle.office_json.specs.Lists.{NoActs, not_json, bad_act}
 use Rattle.office_http.specs.Replies.{Response}
-use Rattle.office_wire.specs.Answering.{AnyAnswer, ArePerformed, PerformsAsked, Resumes, Serves, RunsOutOfMemory, ReportsCertificate, ReportsContent, ReportsDue, ReportsOverdue, ReportsRecord}
+use Rattle.office_wire.specs.Answering.{AnyAnswer, ArePerformed, PerformsActs, Resumes, Serves, RunsOutOfMemory, ReportsCertificate, ReportsContent, ReportsDue, ReportsOverdue, ReportsRecord}
 use Rattle.office_http.specs.Receiving.{Wanted, acts, cut, refused, requested}
 use Rattle.office_http.specs.declared.path_request.PathRequest.TheVariants as path
 use Rattle.office_wire.specs.Serving.{IsServed, LeavesServed}
@@ -14,10 +14,10 @@ use Rattle.office_wire.specs.Serving.{IsServed, LeavesServed}
 performed_any : {S : Type 0} (Reported : Response → Type 0) (g : Ghosts S) (t : State) (done : List Act) (desk : DeskState S) → ArePerformed Reported g t done desk → ArePerformed AnyAnswer g t done desk
 performed_any Reported g t done desk it = record { outcome = it.outcome; reported = tt; leads = it.leads; came = it.came }
 
-asked_any : {S : Type 0} (Reported : Response → Type 0) (g : Ghosts S) (t : State) (asked : Result (List Act) NoActs) (desk : DeskState S) → PerformsAsked Reported g t asked desk → PerformsAsked AnyAnswer g t asked desk
-asked_any Reported g t (Ok done) desk it = performed_any Reported g t done desk it
-asked_any Reported g t (Err not_json) desk it = (tt, it.1)
-asked_any Reported g t (Err (bad_act place why)) desk it = (tt, it.1)
+performs_any : {S : Type 0} (Reported : Response → Type 0) (g : Ghosts S) (t : State) (read : Result (List Act) NoActs) (desk : DeskState S) → PerformsActs Reported g t read desk → PerformsActs AnyAnswer g t read desk
+performs_any Reported g t (Ok done) desk it = performed_any Reported g t done desk it
+performs_any Reported g t (Err not_json) desk it = (tt, it.1)
+performs_any Reported g t (Err (bad_act place why)) desk it = (tt, it.1)
 
 resumed_any : {S : Type 0} (Reported : Response → Type 0) (g : Ghosts S) (t : State) (desk : DeskState S) → Resumes Reported g t desk → Resumes AnyAnswer g t desk
 resumed_any Reported g t desk it = (it.0, tt, it.2)
@@ -46,7 +46,7 @@ certificate_any Reported g t (Some run) desk it = (inl tt, it.1)
 serves_any : {S : Type 0} (Reported : Response → Type 0) (g : Ghosts S) (t : State) (it : Wanted) (desk : DeskState S) → Serves Reported g t it desk → Serves AnyAnswer g t it desk
 serves_any Reported g t (refused check) desk served = (tt, served.1)
 serves_any Reported g t cut desk served = (tt, served.1)
-serves_any Reported g t (acts body) desk served = asked_any Reported g t _ desk served
+serves_any Reported g t (acts body) desk served = performs_any Reported g t _ desk served
 serves_any Reported g t (requested path.Resume) desk served = resumed_any Reported g t desk served
 serves_any Reported g t (requested (path.Record r)) desk served = record_any Reported g t r desk served
 serves_any Reported g t (requested (path.Content r)) desk served = content_any Reported g t r desk served

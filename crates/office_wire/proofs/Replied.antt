@@ -15,7 +15,7 @@ use Rattle.office_http.specs.declared.status.Status.{Status}
 use Rattle.office_http.proofs.PostedActs.{acts_are_no_head}
 use Rattle.office_base.specs.declared.output.Io.{Io}
 use Rattle.office_wire.specs.Calling.{AnsweredAt, CalledAt}
-use Rattle.office_http.specs.Receiving.{HasActs, IsAskedBy, IsReceived, IsOutOfMemory, Wanted, asked_for, cut}
+use Rattle.office_http.specs.Receiving.{HasActs, IsParsedFrom, IsReceived, IsOutOfMemory, Wanted, operation_wanted, cut}
 use Rattle.office_wire.specs.Serving.{AnswersNext, Breaks, GoneReplies, HasReply, InHalves, IsFailed, IsGoneAnswered, IsGoneReply, IsGoneServed, IsGoneToSend, IsNextReady, IsOneServed, IsReply, IsSent, IsServed, IsSomeSent, IsToSend, Replies, Sends, ReportsUnavailable}
 use Rattle.office_http.specs.declared.request.ParsedRequest.{ParsedRequest}
 use Rattle.office_http.specs.declared.request.Received.TheVariants as received
@@ -32,9 +32,9 @@ some_trivial : {A : Type 0} (o : Option A) → IfSome o (λ a. Unit {0})
 some_trivial None = tt
 some_trivial (Some a) = tt
 
-pub asked_reply : {S : Type 0} (g : Ghosts S) (t : State) (bytes : List ℕ) (unread : Type 0) (h : RequestHead) (rest : List ℕ) (it : ParsedRequest) (is_head : Bool) (r : Response) (desk : DeskState S)
-    → IsRequest (asks h rest) bytes → IsAskedBy h rest it → is_head ≡ it.is_head → IsServed g t (asked_for it.operation) r desk → IsReply g t bytes unread is_head r desk
-asked_reply g t bytes unread h rest it is_head r desk request by same served =
+pub request_reply : {S : Type 0} (g : Ghosts S) (t : State) (bytes : List ℕ) (unread : Type 0) (h : RequestHead) (rest : List ℕ) (it : ParsedRequest) (is_head : Bool) (r : Response) (desk : DeskState S)
+    → IsRequest (asks h rest) bytes → IsParsedFrom h rest it → is_head ≡ it.is_head → IsServed g t (operation_wanted it.operation) r desk → IsReply g t bytes unread is_head r desk
+request_reply g t bytes unread h rest it is_head r desk request by same served =
     inl (asks h rest, request, (same ∙ by.is_head, inl (subst (λ (w : Wanted). IsServed g t w r desk) by.wanted served)))
 
 -- acts are not asked for by HEAD
@@ -48,9 +48,9 @@ out_of_memory_reply g t bytes unread h rest (Some it) desk request has failed re
     inl (asks h rest, request, (no_head h it.is_head has failed.1, inr ((has, failed.0), represents)))
 
 -- from a poisoned desk
-pub asked_gone : (bytes : List ℕ) (unread : Type 0) (h : RequestHead) (rest : List ℕ) (it : ParsedRequest) (is_head : Bool) (r : Response)
-    → IsRequest (asks h rest) bytes → IsAskedBy h rest it → is_head ≡ it.is_head → IsGoneServed (asked_for it.operation) r → IsGoneReply bytes unread is_head r
-asked_gone bytes unread h rest it is_head r request by same served =
+pub request_gone : (bytes : List ℕ) (unread : Type 0) (h : RequestHead) (rest : List ℕ) (it : ParsedRequest) (is_head : Bool) (r : Response)
+    → IsRequest (asks h rest) bytes → IsParsedFrom h rest it → is_head ≡ it.is_head → IsGoneServed (operation_wanted it.operation) r → IsGoneReply bytes unread is_head r
+request_gone bytes unread h rest it is_head r request by same served =
     inl (asks h rest, request, (same ∙ by.is_head, inl (subst (λ (w : Wanted). IsGoneServed w r) by.wanted served)))
 
 out_of_memory_gone : (bytes : List ℕ) (unread : Type 0) (h : RequestHead) (rest : List ℕ) (it : Option OutgoingReply)
@@ -62,12 +62,12 @@ out_of_memory_gone bytes unread h rest (Some it) request has failed =
 -- what was to be written is written
 sent_reply : {S : Type 0} (g : Ghosts S) (t : State) (bytes : List ℕ) (unread : Type 0) (it : Option OutgoingReply) (status : ℕ) (written after : Option (List ℕ)) (desk : DeskState S)
     → IsToSend g t bytes unread it desk → IsSent it status written after → Replies g t bytes unread status written after desk
-sent_reply g t bytes unread None status written after desk asked sent = inl (asked.0, sent.0, sent.1, asked.1)
-sent_reply g t bytes unread (Some it) status written after desk asked sent = inr (it.is_head, response it.reply, asked, sent)
+sent_reply g t bytes unread None status written after desk request sent = inl (request.0, sent.0, sent.1, request.1)
+sent_reply g t bytes unread (Some it) status written after desk request sent = inr (it.is_head, response it.reply, request, sent)
 
 sent_gone : (bytes : List ℕ) (unread : Type 0) (it : Option OutgoingReply) (status : ℕ) (written after : Option (List ℕ)) → IsGoneToSend bytes unread it → IsSent it status written after → GoneReplies bytes unread status written after
-sent_gone bytes unread None status written after asked sent = inl (asked, sent.0, sent.1)
-sent_gone bytes unread (Some it) status written after asked sent = inr (it.is_head, response it.reply, asked, sent)
+sent_gone bytes unread None status written after request sent = inl (request, sent.0, sent.1)
+sent_gone bytes unread (Some it) status written after request sent = inr (it.is_head, response it.reply, request, sent)
 
 sent_unavailable : (it : Option OutgoingReply) (status : ℕ) (written after : Option (List ℕ)) → ReportsUnavailable it → IsSent it status written after → status ≡ 503
 sent_unavailable None status written after reported sent = absurd reported
@@ -76,18 +76,18 @@ sent_unavailable (Some it) status written after reported sent = sent.1 ∙ ap (�
 -- ---- the half before it
 
 module _ {S : Type 0} (g : Ghosts S) (all : Option (List ℕ)) (unread : Type 0) where
-  -- nothing was asked of the desk, and this is to be written
-  unasked : (desk : DeskState S) (next : Option OutgoingReply) (Came : List ℕ → Type 0) → IfSome all Came → ((t : State) (bytes : List ℕ) → IsAt g t desk → Came bytes → IsToSend g t bytes unread next desk)
+  -- nothing was done at the desk, and this is to be written
+  unchanged : (desk : DeskState S) (next : Option OutgoingReply) (Came : List ℕ → Type 0) → IfSome all Came → ((t : State) (bytes : List ℕ) → IsAt g t desk → Came bytes → IsToSend g t bytes unread next desk)
       → ((bytes : List ℕ) → Came bytes → IsGoneToSend bytes unread next)
       → AnsweredAt g desk desk (λ t. IsNextReady g t all unread (Ok next) desk) (IfSome all (λ bytes. IsGoneToSend bytes unread next)) (ReportsUnavailable next)
-  unasked desk next Came came to gone =
+  unchanged desk next Came came to gone =
       not_answered g desk (λ t. IsNextReady g t all unread (Ok next) desk) (IfSome all (λ bytes. IsGoneToSend bytes unread next)) (ReportsUnavailable next)
       (λ t at. record { ok = some_more all Came (λ bytes. IsToSend g t bytes unread next desk) came (λ bytes it. to t bytes at it); leaves = (cut, (tt, at)) })
       (some_more all Came (λ bytes. IsGoneToSend bytes unread next) came gone)
 
   pub silent_next : (desk : DeskState S) → IfSome all (λ bytes. IsReceived received.Nothing bytes)
       → AnsweredAt g desk desk (λ t. IsNextReady g t all unread (Ok None) desk) (IfSome all (λ bytes. IsGoneToSend bytes unread None)) (ReportsUnavailable None)
-  silent_next desk came = unasked desk None (λ bytes. IsReceived received.Nothing bytes) came (λ t bytes at it. (it, at)) (λ bytes it. it)
+  silent_next desk came = unchanged desk None (λ bytes. IsReceived received.Nothing bytes) came (λ t bytes at it. (it, at)) (λ bytes it. it)
 
   headless_to : (t : State) (desk : DeskState S) (next : Option OutgoingReply) (bytes : List ℕ) → IsFailed failure.Head false next → IsAt g t desk → IsRequest headless bytes → IsToSend g t bytes unread next desk
   headless_to t desk None bytes failed at it = absurd failed
@@ -100,7 +100,7 @@ module _ {S : Type 0} (g : Ghosts S) (all : Option (List ℕ)) (unread : Type 0)
   pub headless_next : (desk : DeskState S) (next : Option OutgoingReply) → IsFailed failure.Head false next → IfSome all (λ bytes. IsReceived received.Headless bytes)
       → AnsweredAt g desk desk (λ t. IsNextReady g t all unread (Ok next) desk) (IfSome all (λ bytes. IsGoneToSend bytes unread next)) (ReportsUnavailable next)
   headless_next desk next failed came =
-      unasked desk next (λ bytes. IsReceived received.Headless bytes) came (λ t bytes at it. headless_to t desk next bytes failed at it) (λ bytes it. headless_gone next bytes failed it)
+      unchanged desk next (λ bytes. IsReceived received.Headless bytes) came (λ t bytes at it. headless_to t desk next bytes failed at it) (λ bytes it. headless_gone next bytes failed it)
 
   unread_to : (t : State) (desk : DeskState S) (next : Option OutgoingReply) (bytes : List ℕ) → unread → IsFailed failure.Memory false next → IsAt g t desk → IsToSend g t bytes unread next desk
   unread_to t desk None bytes is failed at = absurd failed
@@ -114,35 +114,35 @@ module _ {S : Type 0} (g : Ghosts S) (all : Option (List ℕ)) (unread : Type 0)
   pub unread_next : (desk : DeskState S) (next : Option OutgoingReply) → unread → IsFailed failure.Memory false next → IfSome all (λ bytes. IsOutOfMemory stop.Memory bytes)
       → AnsweredAt g desk desk (λ t. IsNextReady g t all unread (Ok next) desk) (IfSome all (λ bytes. IsGoneToSend bytes unread next)) (ReportsUnavailable next)
   unread_next desk next is failed came =
-      unasked desk next (λ bytes. IsOutOfMemory stop.Memory bytes) came (λ t bytes at it. unread_to t desk next bytes is failed at) (λ bytes it. unread_gone next bytes is failed)
+      unchanged desk next (λ bytes. IsOutOfMemory stop.Memory bytes) came (λ t bytes at it. unread_to t desk next bytes is failed at) (λ bytes it. unread_gone next bytes is failed)
 
   -- or for the routes, before the reader was asked for a byte
   pub unrouted_next : (desk : DeskState S) (next : Option OutgoingReply) → unread → IsFailed failure.Memory false next
       → AnsweredAt g desk desk (λ t. IsNextReady g t all unread (Ok next) desk) (IfSome all (λ bytes. IsGoneToSend bytes unread next)) (ReportsUnavailable next)
   unrouted_next desk next is failed =
-      unasked desk next (λ bytes. Unit {0}) (some_trivial all) (λ t bytes at it. unread_to t desk next bytes is failed at) (λ bytes it. unread_gone next bytes is failed)
+      unchanged desk next (λ bytes. Unit {0}) (some_trivial all) (λ t bytes at it. unread_to t desk next bytes is failed at) (λ bytes it. unread_gone next bytes is failed)
 
   -- or for the body of acts
   pub out_of_memory_next : (desk : DeskState S) (next : Option OutgoingReply) → IsFailed failure.Memory false next → IfSome all (λ bytes. IsOutOfMemory stop.MemoryForBody bytes)
       → AnsweredAt g desk desk (λ t. IsNextReady g t all unread (Ok next) desk) (IfSome all (λ bytes. IsGoneToSend bytes unread next)) (ReportsUnavailable next)
   out_of_memory_next desk next failed came =
-      unasked desk next (λ bytes. IsOutOfMemory stop.MemoryForBody bytes) came
+      unchanged desk next (λ bytes. IsOutOfMemory stop.MemoryForBody bytes) came
       (λ t bytes at it. out_of_memory_reply g t bytes unread it.0 it.1 next desk it.2 it.3 failed at) (λ bytes it. out_of_memory_gone bytes unread it.0 it.1 next it.2 it.3 failed)
 
   -- a request was answered
-  pub asked_next : (old new : DeskState S) (asked : ParsedRequest) (sent : OutgoingReply) → IfSome all (λ bytes. IsReceived (received.Request asked) bytes) → sent.is_head ≡ asked.is_head → HasReply g (asked_for asked.operation) (response sent.reply) old new
+  pub request_next : (old new : DeskState S) (request : ParsedRequest) (sent : OutgoingReply) → IfSome all (λ bytes. IsReceived (received.Request request) bytes) → sent.is_head ≡ request.is_head → HasReply g (operation_wanted request.operation) (response sent.reply) old new
       → AnsweredAt g old new (λ t. IsNextReady g t all unread (Ok (Some sent)) new) (IfSome all (λ bytes. IsGoneToSend bytes unread (Some sent))) (ReportsUnavailable (Some sent))
-  asked_next old new asked sent came same it =
+  request_next old new request sent came same it =
       let r = response sent.reply in
-      answered g old new (λ t. IsServed g t (asked_for asked.operation) r new) (λ t. IsNextReady g t all unread (Ok (Some sent)) new) _ _ _ _ it
+      answered g old new (λ t. IsServed g t (operation_wanted request.operation) r new) (λ t. IsNextReady g t all unread (Ok (Some sent)) new) _ _ _ _ it
       (λ t served.
       record {
-        ok = some_more all (λ bytes. IsReceived (received.Request asked) bytes) (λ bytes. IsToSend g t bytes unread (Some sent) new) came
-            (λ bytes is. asked_reply g t bytes unread is.0 is.1 asked sent.is_head r new is.2 is.3 same served);
-        leaves = served_leaves g t (asked_for asked.operation) r new served;
+        ok = some_more all (λ bytes. IsReceived (received.Request request) bytes) (λ bytes. IsToSend g t bytes unread (Some sent) new) came
+            (λ bytes is. request_reply g t bytes unread is.0 is.1 request sent.is_head r new is.2 is.3 same served);
+        leaves = served_leaves g t (operation_wanted request.operation) r new served;
       })
-      (λ gone. some_more all (λ bytes. IsReceived (received.Request asked) bytes) (λ bytes. IsGoneToSend bytes unread (Some sent)) came
-      (λ bytes is. asked_gone bytes unread is.0 is.1 asked sent.is_head r is.2 is.3 same gone))
+      (λ gone. some_more all (λ bytes. IsReceived (received.Request request) bytes) (λ bytes. IsGoneToSend bytes unread (Some sent)) came
+      (λ bytes is. request_gone bytes unread is.0 is.1 request sent.is_head r is.2 is.3 same gone))
       (λ reported. reported)
 
   -- the reader failed
@@ -171,12 +171,12 @@ module _ {R W S : Type 0} (g : Ghosts S) (all : R → Option (List ℕ)) (reader
       record {
         ok = IfOk-weaker status _ _
             (λ code is. some_more (all reader) (λ bytes. IsToSend g t bytes unread it new) (λ bytes. Replies g t bytes unread code (contents writer) (contents after) new) ready.ok
-            (λ bytes asked. sent_reply g t bytes unread it code (contents writer) (contents after) new asked is)) sent.ok;
+            (λ bytes request. sent_reply g t bytes unread it code (contents writer) (contents after) new request is)) sent.ok;
         leaves = ready.leaves;
       })
       (λ gone. IfOk-weaker status _ _
       (λ code is. some_more (all reader) (λ bytes. IsGoneToSend bytes unread it) (λ bytes. GoneReplies bytes unread code (contents writer) (contents after)) gone
-      (λ bytes asked. sent_gone bytes unread it code (contents writer) (contents after) asked is)) sent.ok)
+      (λ bytes request. sent_gone bytes unread it code (contents writer) (contents after) request is)) sent.ok)
       (λ reported. IfOk-weaker status _ _ (λ code is. sent_unavailable it code (contents writer) (contents after) reported is) sent.ok)
 
   undone : (bytes : Option (List ℕ)) (P : List ℕ → Type 0) → new ≡ old → after ≡ writer → IfSome bytes (λ it. ((new ≡ old) × (after ≡ writer)) ⊎ P it)

@@ -9,7 +9,7 @@ use Rattle.office_json.specs.Lists.{NoActs, acts_in}
 use Rattle.office_http.specs.Replies.{Response, failure_response}
 use Rattle.office_http.specs.declared.failure.Failure.TheVariants as failure
 use Rattle.office_http.specs.declared.reply.Reply.{Reply}
-use Rattle.office_wire.specs.Answering.{AnyAnswer, ArePerformed, ArePerformedBy, IsAnswered, IsGiven, IsGivenAt, IsGivenUnavailable, IsGoneGiven, IsPerformed, IsUnavailable, PerformsAsked, RunsOutOfMemory, Serves, TakesMemory, gone_acts, gone_response}
+use Rattle.office_wire.specs.Answering.{AnyAnswer, ArePerformed, ArePerformedBy, IsAnswered, IsGiven, IsGivenAt, IsGivenUnavailable, IsGoneGiven, IsPerformed, IsUnavailable, PerformsActs, RunsOutOfMemory, Serves, TakesMemory, gone_acts, gone_response}
 use Rattle.office_http.specs.Receiving.{Wanted, acts, requested}
 use Rattle.office_http.specs.declared.path_request.PathRequest.TheVariants as path
 use Rattle.office_wire.specs.Serving.{HasReply}
@@ -44,7 +44,7 @@ pub body_performed : {S : Type 0} (g : Ghosts S) (body : List ℕ) (seen done : 
 body_performed g body seen done reply old new same read it =
     performed g (acts body) reply old new tt (λ t served. inr served)
     (answered g old new (λ t. ArePerformed (IsGiven reply) g t seen new) (λ t. Serves (IsGiven reply) g t (acts body) new) _ (IsGiven reply (gone_response (acts body))) (IsGivenUnavailable reply) (IsGivenUnavailable reply) it
-    (λ t is. subst (λ (x : Result (List Act) NoActs). PerformsAsked (IsGiven reply) g t x new) (sym read) (subst (λ (x : List Act). ArePerformed (IsGiven reply) g t x new) same is))
+    (λ t is. subst (λ (x : Result (List Act) NoActs). PerformsActs (IsGiven reply) g t x new) (sym read) (subst (λ (x : List Act). ArePerformed (IsGiven reply) g t x new) same is))
     (λ gone. subst (λ (x : Result (List Act) NoActs). IsGiven reply (gone_acts x)) (sym read) gone) (λ reported. reported))
 
 -- memory ran out for the answer, and that is reported

@@ -1,4 +1,4 @@
--- What is answered to what is asked of the office, and where the desk is then. Source: own.
+-- What is answered to a request, and where the desk is then. Source: own.
 use Rattle.std.specs.FinMap.{get}
 use Rattle.std.specs.Prelude.{◌≡◌, ◌⊎◌, ℕ, ℤ, IfOk, IsSome, IsSomeAnd, IsTrue, List, MatchResult, [], Option, Some, None, Result, Ok, Err}
 use Rattle.sqlite.specs.Held.{state}
@@ -45,11 +45,11 @@ pub record ArePerformed {S : Type 0} (Reported : Response → Type 0) (g : Ghost
   pub came : ActsCameTo t done outcome (state g desk.held)
 
 -- what bytes ask for, by what is read of them
-abbrev pub PerformsAsked : {S : Type 0} → (Response → Type 0) → Ghosts S → State → Result (List Act) NoActs
+abbrev pub PerformsActs : {S : Type 0} → (Response → Type 0) → Ghosts S → State → Result (List Act) NoActs
     → DeskState S → Type 0
-PerformsAsked Reported g t (Ok done) desk = ArePerformed Reported g t done desk
-PerformsAsked Reported g t (Err not_json) desk = Reported (failure_response failure.Json) × IsAt g t desk
-PerformsAsked Reported g t (Err (bad_act place why)) desk = Reported (bad_act_response place why) × IsAt g t desk
+PerformsActs Reported g t (Ok done) desk = ArePerformed Reported g t done desk
+PerformsActs Reported g t (Err not_json) desk = Reported (failure_response failure.Json) × IsAt g t desk
+PerformsActs Reported g t (Err (bad_act place why)) desk = Reported (bad_act_response place why) × IsAt g t desk
 
 -- ---- the open run
 
@@ -122,7 +122,7 @@ IsReportedOf s r (Some it) = (record_view s r ≡ Some it.view) × (ending_entry
 abbrev pub Serves : {S : Type 0} → (Response → Type 0) → Ghosts S → State → Wanted → DeskState S → Type 0
 Serves Reported g t (refused check) desk = ReportsNone Reported g t (check_response check) desk
 Serves Reported g t cut desk = ReportsNone Reported g t (failure_response failure.Body) desk
-Serves Reported g t (acts body) desk = PerformsAsked Reported g t (acts_in body) desk
+Serves Reported g t (acts body) desk = PerformsActs Reported g t (acts_in body) desk
 Serves Reported g t (requested path.Resume) desk = Resumes Reported g t desk
 Serves Reported g t (requested (path.Record r)) desk = ReportsRecord Reported g t r desk
 Serves Reported g t (requested (path.Content r)) desk = ReportsContent Reported g t r desk
@@ -190,7 +190,7 @@ TakesMemory (requested (path.Certificate run)) = IsSome run
 abbrev pub RunsOutOfMemory : {S : Type 0} → Ghosts S → State → Wanted → DeskState S → Type 0
 RunsOutOfMemory g t (refused check) desk = ⊥
 RunsOutOfMemory g t cut desk = ⊥
-RunsOutOfMemory g t (acts body) desk = IsAt g t desk ⊎ PerformsAsked AnyAnswer g t (acts_in body) desk
+RunsOutOfMemory g t (acts body) desk = IsAt g t desk ⊎ PerformsActs AnyAnswer g t (acts_in body) desk
 RunsOutOfMemory g t (requested path.Resume) desk = Resumes AnyAnswer g t desk
 RunsOutOfMemory g t (requested (path.Record r)) desk = IsSome r × IsAt g t desk
 RunsOutOfMemory g t (requested (path.Content number)) desk =

@@ -23,7 +23,7 @@ abbrev pub Writes : Bool → Response → ℕ → Option (List ℕ) → Option (
 Writes is_head r status written after =
     Appends written after (response_text is_head r) × (status ≡ status_number r.status)
 
--- what is asked is served with this answer, or memory ran out for that and is reported
+-- what is wanted is served with this answer, or memory ran out for that and is reported
 abbrev pub IsServed : {S : Type 0} → Ghosts S → State → Wanted → Response → DeskState S → Type 0
 IsServed g t it r desk = Answers g t it r desk ⊎ ((r ≡ failure_response failure.Memory) × RunsOutOfMemory g t it desk)
 

@@ -1,9 +1,9 @@
-//! What is asked is done at the desk, and answered.
+//! What a request asks for is done at the desk, and answered.
 ghost use Rattle.std.specs.FinMap.{get};
 ghost use Rattle.std.specs.Prelude.{◌≡◌, ◌⊎◌, IfErr, IfOk, IsTrue, false, option_map, string_bytes};
 ghost use Rattle.office_rules.specs.Readings.{ending_entry, record_view};
 ghost use Rattle.office_wire.specs.Answering.{ArePerformedBy, IsAnswered, IsPerformed, IsRead, IsReportedOf};
-ghost use Rattle.office_http.specs.Receiving.{acts, asked_for, requested};
+ghost use Rattle.office_http.specs.Receiving.{acts, operation_wanted, requested};
 
 use crate::replies::{
     acts_reply, answer_reply, bad_act_reply, certificate_reply, content_reply, due_reply,
@@ -180,15 +180,16 @@ fn answer_path<S: Alter>(
     }
 }
 
-/// Does at the desk what is asked, and gives the answer. `Memory` comes where memory was refused to
-/// read the acts, and then none was done; or for the answer, and what was done is kept then. A
-/// failed check, a cut body and a number or day that names nothing are answered without memory.
+/// Does at the desk what an operation asks for, and gives the answer. `Memory` comes where memory
+/// was refused to read the acts, and then none was done; or for the answer, and what was done is
+/// kept then. A failed check, a cut body and a number or day that names nothing are answered without
+/// memory.
 pub fn answer<S: Alter>(
     alloc: Global,
     desk: &mut Desk<S>,
     operation: &Operation,
 ) -> Result<Reply, Memory>
-    ensures { IsAnswered S.Store (asked_for operation.now) result desk.old desk.new }
+    ensures { IsAnswered S.Store (operation_wanted operation.now) result desk.old desk.new }
 {
     match operation {
         Operation::Refused(check) => Ok(check_reply(*check)),

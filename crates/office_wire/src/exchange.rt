@@ -2,7 +2,7 @@
 //! one has no writer and the other no desk.
 ghost use Rattle.std.specs.Prelude.{◌≡◌, IfOk, IsTrue, OnErr, false};
 ghost use Rattle.office_http.specs.Replies.{response};
-ghost use Rattle.office_http.specs.Receiving.{asked_for};
+ghost use Rattle.office_http.specs.Receiving.{operation_wanted};
 ghost use Rattle.office_wire.specs.Calling.{CalledAt};
 ghost use Rattle.office_wire.specs.Serving.{AnswersNext, HasReply, InHalves, IsFailed, IsGoneAnswered, IsOneServed, Sends};
 
@@ -17,10 +17,10 @@ use sqlite::Alter;
 use std::alloc::Global;
 use std::io::{Read, Write};
 
-/// Does what is asked, and gives an answer in any case: where memory is refused for it, that is
-/// reported from fixed bytes.
-fn served<S: Alter>(alloc: Global, desk: &mut Desk<S>, operation: &Operation) -> Reply
-    ensures { HasReply S.Store (asked_for operation.now) (response result) desk.old desk.new }
+/// Does what an operation asks for, and gives an answer in any case: where memory is refused for it,
+/// that is reported from fixed bytes.
+fn serve_operation<S: Alter>(alloc: Global, desk: &mut Desk<S>, operation: &Operation) -> Reply
+    ensures { HasReply S.Store (operation_wanted operation.now) (response result) desk.old desk.new }
 {
     match answer(alloc, desk, operation) {
         Ok(reply) => reply,
@@ -38,7 +38,7 @@ pub struct OutgoingReply {
 }
 
 /// An answer from fixed bytes.
-fn failed(failure: Failure, is_head: bool) -> Option<OutgoingReply>
+fn failure_to_send(failure: Failure, is_head: bool) -> Option<OutgoingReply>
     ensures { IsFailed failure is_head result }
 {
     let reply = failure_reply(failure);
@@ -46,15 +46,19 @@ fn failed(failure: Failure, is_head: bool) -> Option<OutgoingReply>
 }
 
 /// Does what a request asks for, and gives its answer.
-fn answered<S: Alter>(alloc: Global, desk: &mut Desk<S>, asked: ParsedRequest) -> OutgoingReply
-    ensures is_head { result.is_head ≡ asked.is_head }
-    ensures has { HasReply S.Store (asked_for asked.operation) (response result.reply) desk.old
+fn answer_request<S: Alter>(
+    alloc: Global,
+    desk: &mut Desk<S>,
+    request: ParsedRequest,
+) -> OutgoingReply
+    ensures is_head { result.is_head ≡ request.is_head }
+    ensures has { HasReply S.Store (operation_wanted request.operation) (response result.reply) desk.old
         desk.new }
 {
-    let reply = served(alloc, desk, &asked.operation);
+    let reply = serve_operation(alloc, desk, &request.operation);
     OutgoingReply {
         reply,
-        is_head: asked.is_head,
+        is_head: request.is_head,
     }
 }
 
@@ -72,10 +76,10 @@ pub fn answer_next<R: Read, S: Alter>(
 {
     match receive(alloc, routes, reader) {
         Ok(Received::Nothing) => Ok(None),
-        Ok(Received::Headless) => Ok(failed(Failure::Head, false)),
-        Ok(Received::Request(asked)) => Ok(Some(answered(alloc, desk, asked))),
-        Err(ReceiveStop::Memory) => Ok(failed(Failure::Memory, false)),
-        Err(ReceiveStop::MemoryForBody) => Ok(failed(Failure::Memory, false)),
+        Ok(Received::Headless) => Ok(failure_to_send(Failure::Head, false)),
+        Ok(Received::Request(request)) => Ok(Some(answer_request(alloc, desk, request))),
+        Err(ReceiveStop::Memory) => Ok(failure_to_send(Failure::Memory, false)),
+        Err(ReceiveStop::MemoryForBody) => Ok(failure_to_send(Failure::Memory, false)),
         Err(ReceiveStop::Io) => Err(Io),
     }
 }
@@ -160,6 +164,6 @@ pub fn serve_one<R: Read, W: Write, S: Alter>(
 {
     match Routes::new(alloc) {
         Ok(routes) => serve_with(alloc, &routes, desk, reader, writer),
-        Err(_) => send(failed(Failure::Memory, false), writer),
+        Err(_) => send(failure_to_send(Failure::Memory, false), writer),
     }
 }

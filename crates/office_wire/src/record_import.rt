@@ -95,7 +95,7 @@ fn take_row<S: Alter, W: Write>(
 }
 
 /// Why an import stops where no row was read in that place.
-fn stopped(stop: RowStop, number: u64) -> ImportStop
+fn stop_at(stop: RowStop, number: u64) -> ImportStop
     ensures { result ≡ stop_at stop number }
 {
     match stop {
@@ -106,7 +106,7 @@ fn stopped(stop: RowStop, number: u64) -> ImportStop
 }
 
 /// So many refused rows, and one more where it was.
-fn counted(refused: u64, is_refused: bool) -> u64
+fn count_refused(refused: u64, is_refused: bool) -> u64
     requires { refused < 2 ^ 64 - 1 }
     ensures { result ≡ refused + one_if is_refused }
 {
@@ -133,10 +133,10 @@ fn import_rows<S: Alter, R: Read, W: Write>(
         match next_row(rdr, &mut row) {
             Ok(true) => {}
             Ok(false) => return Ok(refused),
-            Err(stop) => return Err(stopped(stop, before + 1)),
+            Err(stop) => return Err(stop_at(stop, before + 1)),
         }
         match take_row(alloc, desk, day, before + 1, &row, out) {
-            Ok(is_refused) => refused = counted(refused, is_refused),
+            Ok(is_refused) => refused = count_refused(refused, is_refused),
             Err(stop) => return Err(stop),
         }
     }

@@ -26,13 +26,18 @@ pub enum ExportStop {
     Io,
 }
 
-/// Why an export stops where a register does.
-fn stopped(stop: Stop) -> ExportStop
-    ensures { (result ≡ ExportStop.Io) ⊎ (result ≡ ExportStop.Fault Fault.Memory) }
-{
-    match stop {
-        Stop::Memory => ExportStop::Fault(Fault::Memory),
-        Stop::Io => ExportStop::Io,
+impl From<Stop> for ExportStop {
+    ghost use Rattle.std.specs.Prelude.{◌≡◌, ◌⊎◌};
+    ghost use Rattle.office_store.specs.declared.fault.Fault.TheVariants as fault;
+    ghost use Rattle.office_wire.specs.declared.registers.ExportStop.TheVariants as stop;
+
+    ghost from_gives = { λ _ why. (why ≡ stop.Io) ⊎ (why ≡ stop.Fault fault.Memory) };
+
+    fn from(stop: Stop) -> ExportStop {
+        match stop {
+            Stop::Memory => ExportStop::Fault(Fault::Memory),
+            Stop::Io => ExportStop::Io,
+        }
     }
 }
 
@@ -115,7 +120,7 @@ pub fn export_due<S: Alter, W: Write>(
     ensures { Exports (IsDueRegister day) W.contents out.old out.new result desk.old desk.new }
 {
     match desk.due_rows(day) {
-        Ok(rows) => write_due_register(alloc, rows, out).map_err(stopped),
+        Ok(rows) => write_due_register(alloc, rows, out).map_err(ExportStop::from),
         Err(fault) => Err(ExportStop::Fault(fault)),
     }
 }
@@ -135,7 +140,7 @@ pub fn export_overdue<S: Alter, W: Write>(
         desk.new }
 {
     match desk.overdue_rows(day, days) {
-        Ok(rows) => write_overdue_register(alloc, rows, days, out).map_err(stopped),
+        Ok(rows) => write_overdue_register(alloc, rows, days, out).map_err(ExportStop::from),
         Err(fault) => Err(ExportStop::Fault(fault)),
     }
 }
@@ -152,7 +157,7 @@ pub fn export_entries<S: Alter, W: Write>(
     ensures { Exports IsEntryRegister W.contents out.old out.new result desk.old desk.new }
 {
     match desk.entry_rows() {
-        Ok(rows) => write_entry_register(alloc, rows, out).map_err(stopped),
+        Ok(rows) => write_entry_register(alloc, rows, out).map_err(ExportStop::from),
         Err(fault) => Err(ExportStop::Fault(fault)),
     }
 }

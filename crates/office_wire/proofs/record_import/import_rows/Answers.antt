@@ -11,7 +11,7 @@ returns-in-Ok-false g c = prefix_end _ _ _ _ _ _ _ _ _ _ _ _ c.loop-before.invar
 
 pub returns-in-Err : goal.returns-in-Err
 returns-in-Err g c =
-    rw c.stopped.ensures (prefix_unread _ _ _ _ _ _ _ _ _ _ _ _ c.loop-before.invariant.1 _ (λ e. c.in-Err.ensures.bad (ap (λ (why : RowStop). Err why) e)))
+    rw c.stop_at.ensures (prefix_unread _ _ _ _ _ _ _ _ _ _ _ _ c.loop-before.invariant.1 _ (λ e. c.in-Err.ensures.bad (ap (λ (why : RowStop). Err why) e)))
 
 pub returns-in-Err-take_row : goal.returns-in-Err-take_row
 returns-in-Err-take_row g c =
@@ -20,7 +20,7 @@ returns-in-Err-take_row g c =
 pub loop-before-preserved : goal.loop-before-preserved
 loop-before-preserved g c = (
   c.in-Ok-true.ensures.plain c.in-Ok-true.field-0-test,
-  rw c.counted-refused.ensures
+  rw c.count_refused-refused.ensures
       (prefix_more _ _ _ _ _ _ _ _ _ _ _ _ _ _ _ _ _ (rw c.in-Ok-true.field-0-test at c.in-Ok-true.ensures.reads) c.in-Ok-true.ensures.text _ c.loop-before.invariant.1 c.in-Ok.ensures),
 )
 
