@@ -82,6 +82,7 @@ module _ (acts : List Act) (i : ℕ) (a : Act) (within : i < length acts) (is : 
       → CalledPrefix g old new (take (i + 1) acts) given found
   one_more new answer found one reported = record {
     clean = λ clean. so_far.clean (one.clean clean);
+    shield = λ shielded. one.shield (so_far.shield shielded);
     did = λ s is_open same.
         let so = so_far.did s is_open same in
         let it = one.did (after s (take i acts)) so.is_open (sym so.office) in
@@ -98,6 +99,7 @@ module _ (acts : List Act) (i : ℕ) (a : Act) (within : i < length acts) (is : 
   pub stopped_next : (new : DeskState S) (f : Fault) → Called g mid new (λ s At. IsFaulted g s (step s a).1 f mid new At) → Called g old new (λ s At. AreStopped g s acts given before f new At)
   stopped_next new f one = record {
     clean = λ clean. so_far.clean (one.clean clean);
+    shield = λ shielded. one.shield (so_far.shield shielded);
     did = λ s is_open same.
         let so = so_far.did s is_open same in
         let it = one.did (after s (take i acts)) so.is_open (sym so.office) in
@@ -120,6 +122,7 @@ module _ (acts : List Act) (i : ℕ) (a : Act) (within : i < length acts) (is : 
       let clean_done : HasCleanDisk (state g new.held) → HasCleanDisk (state g done.held) = subst (λ it. HasCleanDisk (state g it)) held in
       record {
         clean = λ clean. so_far.clean (one.clean (clean_done clean));
+        shield = λ shielded. subst (λ it. (state g it).IsShielded) (sym held) (one.shield (so_far.shield shielded));
         did = λ s is_open same.
             let so = so_far.did s is_open same in
             let it = one.did (after s (take i acts)) so.is_open (sym so.office) in

@@ -52,6 +52,7 @@ module _ {S : Type 0} (g : Ghosts S) (mid new : DeskState S) (answer : Answer) (
   pub one_taken : (old : DeskState S) → CalledSteps g old mid → CalledSteps g old new
   one_taken old so_far = record {
     clean = λ clean. so_far.clean (one.clean clean);
+    shield = λ shielded. one.shield (so_far.shield shielded);
     did = λ s is_open same.
         let so = so_far.did s is_open same in
         let it = one.did (after_steps s so.count) still (sym so.office) in
@@ -70,6 +71,7 @@ module _ {S : Type 0} (g : Ghosts S) (mid new : DeskState S) (answer : Answer) (
       let last = is_last none in
       record {
         clean = all.clean;
+        shield = all.shield;
         did = λ s is_open same.
             let so = all.did s is_open same in
             record {
@@ -87,6 +89,7 @@ pub steps_stopped : {S : Type 0} (g : Ghosts S) (old mid new : DeskState S) (f :
     → Called g mid new (λ s At. IsFaulted g s (step s act.RunStep).1 f mid new At) → Called g old new (λ s At. AreStepsStopped g s f old new At)
 steps_stopped g old mid new f still so_far first one = record {
   clean = λ clean. so_far.clean (one.clean clean);
+  shield = λ shielded. one.shield (so_far.shield shielded);
   did = λ s is_open same.
       let so = so_far.did s is_open same in
       let it = one.did (after_steps s so.count) still (sym so.office) in

@@ -32,6 +32,7 @@ WasAt g s old new = HasCleanDisk (state g new.held) × IsAt g s old
 -- by a desk that is open: what was done from each state with its office, where `At` is that it was there
 pub record Called {S : Type 0} (g : Ghosts S) (old new : DeskState S) (Did : State → Type 0 → Type 0) : Type 0 where
   pub clean : HasCleanDisk (state g new.held) → HasCleanDisk (state g old.held)
+  pub shield : (state g old.held).IsShielded → (state g new.held).IsShielded
   pub did : (s : State) → old.is_poisoned ≡ false → s.office ≡ old.office → Did s (WasAt g s old new)
   pub rest : (s : State) → HasCleanDisk (state g new.held) → IsAt g s old → LeavesRestOf g old new
 

@@ -102,7 +102,9 @@ pub record ActsCameTo (s : State) (acts : List Act) (o : ActsOutcome) (held : sq
 abbrev pub FromEach : {S : Type 0} → Ghosts S → (old new : DeskState S) → (State → Type 0) → Type 0
 FromEach g old new P = (s : State) → HasCleanDisk (state g new.held) → IsAt g s old → P s
 
--- a disk that is clean now was clean before, and then whatever a crash leaves has what is not the office's as it was
+-- a disk that is clean now was clean before, and then whatever a crash leaves has what is not the office's as it was;
+-- and where each later read was tested, it is
 pub record SparesTheRest {S : Type 0} (g : Ghosts S) (old new : DeskState S) : Type 0 where
   pub clean : HasCleanDisk (state g new.held) → HasCleanDisk (state g old.held)
+  pub shield : (state g old.held).IsShielded → (state g new.held).IsShielded
   pub rest : FromEach g old new (λ s. LeavesRestOf g old new)

@@ -94,6 +94,7 @@ pub fn migrate_all<S: Alter>(conn: &mut Connection<S>) -> Result<(), Error>
     ensures migrates { (day : ℤ)
         → Migrates day (state S.Store conn.old) (state S.Store conn.new) result }
     ensures clean { HasCleanDisk (state S.Store conn.new) → HasCleanDisk (state S.Store conn.old) }
+    ensures shield { (state S.Store conn.old).IsShielded → (state S.Store conn.new).IsShielded }
     ensures ended { conn.new.in_transaction ≡ false }
 {
     let mut tx = conn.transaction();

@@ -1,5 +1,5 @@
 -- Tables that were read whole, of which no `office` row came.
-use Rattle.std.proofs.Common.{◌≡◌, ◌≢◌, inl, ℤ, [], ◌∷◌, false, refl, subst}
+use Rattle.std.proofs.Common.{◌≡◌, ◌≢◌, inl, ℤ, [], ◌∷◌, false, refl, subst, sym}
 use Rattle.sqlite.specs.Held.{Held, state}
 use Rattle.sqlite.specs.State.{HasCleanDisk}
 use Rattle.sqlite_trees.specs.declared.store.Store.{Ghosts}
@@ -15,6 +15,7 @@ not_of_none g conn store back had has is ended none it no_day = record {
   faults = λ wrong. cc;
   mixed = λ named clean has is differs. inl refl;
   clean = λ clean. it.clean (subst (λ h. HasCleanDisk (state g h)) is clean);
+  shield = λ shielded. subst (λ h. (state g h).IsShielded) (sym is) (it.shield shielded);
   left = λ ed clean rest.
       let taken = it.taken ed (subst (λ h. HasCleanDisk (state g h)) is clean) rest in
       let office = (taken.read none).office in

@@ -62,6 +62,7 @@ pub record IsCreated {S : Type 0} (g : Ghosts S) (conn store : Held S) : Type 0 
   -- none of the names of an office's tables was in use
   pub clear : has_used_name (state g conn).now.schema ≡ false
   pub clean : HasCleanDisk (state g store) → HasCleanDisk (state g conn)
+  pub shield : (state g conn).IsShielded → (state g store).IsShielded
   pub made : HasCleanDisk (state g store) → IsBlank (state g conn) → AreNew (state g conn) (state g store)
 
 -- the connection is given back with this fault, and there is no new office
@@ -69,6 +70,7 @@ pub record IsNotCreated {S : Type 0} (g : Ghosts S) (conn : Held S) (f : Fault) 
   pub ended : back.in_transaction ≡ false
   pub why : IsUnmadeBy g conn f back
   pub clean : HasCleanDisk (state g back) → HasCleanDisk (state g conn)
+  pub shield : (state g conn).IsShielded → (state g back).IsShielded
   pub left : HasCleanDisk (state g back) → IsBlank (state g conn) → LeavesUnmade (state g conn) (state g back)
 
 -- ---- an office that is there
@@ -107,6 +109,7 @@ pub record AreOfOneVersion {S : Type 0} (g : Ghosts S) (conn store : Held S) : T
 pub record IsAdopted {S : Type 0} (g : Ghosts S) (conn store : Held S) (had has : TableLists) : Type 0 where
   pub version : AreOfOneVersion g conn store
   pub clean : HasCleanDisk (state g store) → HasCleanDisk (state g conn)
+  pub shield : (state g conn).IsShielded → (state g store).IsShielded
   pub taken : (ed : Edition) → HasCleanDisk (state g store) → IsAtRestOver ed (state g conn)
       → AreTaken ed (state g conn) (state g store) had has
 
@@ -124,6 +127,7 @@ pub record IsNotAdopted {S : Type 0} (g : Ghosts S) (conn : Held S) (f : Fault) 
   pub faults : f ≢ fault.Reopen
   pub mixed : ReportsMixed g conn back f
   pub clean : HasCleanDisk (state g back) → HasCleanDisk (state g conn)
+  pub shield : (state g conn).IsShielded → (state g back).IsShielded
   pub left : (ed : Edition) → HasCleanDisk (state g back) → IsAtRestOver ed (state g conn)
       → AreNotTaken ed (state g conn) (state g back) f had Examines
 
@@ -141,6 +145,7 @@ pub record AreMoved {X E : Type 0} (t : TableRows) (old new : State) (result : R
 pub record Migrated {X : Type 0} (old new : State) (result : Result X Fault) : Type 0 where
   pub faults : IfErr result (λ f. f ≡ fault.Store)
   pub clean : HasCleanDisk new → HasCleanDisk old
+  pub shield : old.IsShielded → new.IsShielded
   pub moved : (s : OfficeState) → HasCleanDisk new → HoldsOldRows (rows_of s) old → AreMoved (rows_of s) old new result
 
 -- ---- a change that is saved
@@ -161,15 +166,11 @@ pub record LeavesOffice (old new : State) : Type 0 where
   pub offices : LeavesOffices new
   pub rest : Leaves (SparesRest old.now) new
 
--- how the saving of a change ends
-pub record Saved {S X : Type 0} (g : Ghosts S) (change : Change) (old new : Held S) (result : Result X Fault) : Type 0
-  where
-    pub faults : IfErr result (λ f. (f ≡ fault.Memory) ⊎ (f ≡ fault.Store))
-    pub memory : result ≡ Err fault.Memory → new ≡ old
-    pub clean : HasCleanDisk (state g new) → HasCleanDisk (state g old)
-    pub left : HasCleanDisk (state g new) → IsAtRest (state g old) → LeavesOffice (state g old) (state g new)
-    pub rows : (s : OfficeState) → HasCleanDisk (state g new) → HoldsRows (rows_of s) (state g old)
-        → AreSaved s change (state g new) result
+-- a disk that is clean now was clean before, and then a crash leaves an office; and later reads are tested as they were
+pub record KeepsOffice {S : Type 0} (g : Ghosts S) (old new : Held S) : Type 0 where
+  pub clean : HasCleanDisk (state g new) → HasCleanDisk (state g old)
+  pub shield : (state g old).IsShielded → (state g new).IsShielded
+  pub left : HasCleanDisk (state g new) → IsAtRest (state g old) → LeavesOffice (state g old) (state g new)
 
 -- ---- a content that is read
 
@@ -185,5 +186,6 @@ pub record AreBytesRead (s : OfficeState) (number : ℕ) (new : State) (result :
 pub record ReadsBytes (number : ℕ) (old new : State) (result : Result (Option (Vec ℕ Global)) Fault) : Type 0 where
   pub faults : IfErr result (λ f. (f ≢ fault.Reopen) × (f ≢ fault.Version))
   pub clean : HasCleanDisk new → HasCleanDisk old
+  pub shield : old.IsShielded → new.IsShielded
   pub leaves : HasCleanDisk new → IsAtRest old → LeavesLess old new
   pub content : (s : OfficeState) → HasCleanDisk new → HoldsRows (rows_of s) old → AreBytesRead s number new result

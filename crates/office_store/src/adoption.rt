@@ -68,6 +68,7 @@ fn check_edition<S: Alter>(
     ensures names { OnOk result (named ≡ Some edition) }
     ensures faults { IfErr result (λ fault. (fault ≡ Fault.Damaged) ⊎ (fault ≡ Fault.Store)) }
     ensures clean { HasCleanDisk (state S.Store conn.new) → HasCleanDisk (state S.Store conn.old) }
+    ensures shield { (state S.Store conn.old).IsShielded → (state S.Store conn.new).IsShielded }
     ensures mode { conn.old.in_transaction ≡ false → conn.new.in_transaction ≡ false }
 {
     match (named, edition) {
@@ -83,6 +84,7 @@ fn no_row<S: Alter>(conn: &mut Connection<S>, table: OfficeTable) -> Result<(), 
         → FindsNone e table (state S.Store conn.old) (state S.Store conn.new) result }
     ensures faults { IfErr result (λ fault. (fault ≡ Fault.Damaged) ⊎ (fault ≡ Fault.Store)) }
     ensures clean { HasCleanDisk (state S.Store conn.new) → HasCleanDisk (state S.Store conn.old) }
+    ensures shield { (state S.Store conn.old).IsShielded → (state S.Store conn.new).IsShielded }
     ensures mode { conn.old.in_transaction ≡ false → conn.new.in_transaction ≡ false }
 {
     let rows = all_rows(conn, table).map_err(of_database)?;

@@ -1,7 +1,6 @@
 //! The writes of a change, done to the tables inside one transaction.
-ghost use Rattle.std.specs.Prelude.{◌≡◌, ◌∷◌, [], map, pos};
+ghost use Rattle.std.specs.Prelude.{◌≡◌, ◌∷◌, [], pos};
 ghost use Rattle.std.specs.Option.{option_copied, option_map};
-ghost use Rattle.std.specs.String.{string_bytes};
 ghost use Rattle.sqlite.specs.Held.{state};
 ghost use Rattle.office_sql.specs.Editions.{version_2};
 ghost use Rattle.office_sql.specs.Office.{GoesInside, PutsInto};
@@ -12,6 +11,7 @@ ghost use Rattle.office_rules.specs.declared.rows.RowWrite.TheVariants as row_wr
 ghost use Rattle.office_store.specs.Encoded.{target_kind};
 ghost use Rattle.office_store.specs.Written.{AreWritten, IsWritten, needed_text};
 
+use crate::encoded_write::EncodedWrite;
 use crate::texts::target_kind;
 use office_days::Day;
 use office_records::{Aggregation, Class, Code, Event, HoldRow, Record, Schedule, Status, Target};
@@ -284,18 +284,14 @@ fn put_day<S: Alter>(tx: &mut Transaction<'_, S>, day: Day) -> Result<(), Error>
     put(tx, OfficeTable::Office, params![1_u32, 2_u32, day.number()])
 }
 
-/// Does one write, with the text that it needs.
-fn write_row<S: Alter>(
-    tx: &mut Transaction<'_, S>,
-    write: &RowWrite,
-    text: &str,
-) -> Result<(), Error>
-    requires { text.now ≡ needed_text write.now }
+/// Does one write.
+fn write_row<S: Alter>(tx: &mut Transaction<'_, S>, it: &EncodedWrite<'_>) -> Result<(), Error>
     ensures same_reference { tx.new.conn.ghost_name ≡ tx.old.conn.ghost_name }
-    ensures written { GoesInside version_2 (IsWritten write.now) (state S.Store tx.old.conn.now)
+    ensures written { GoesInside version_2 (IsWritten it.now) (state S.Store tx.old.conn.now)
         (state S.Store tx.new.conn.now) result }
 {
-    match write {
+    let text = it.text.as_str();
+    match it.write {
         RowWrite::Schedule { code, schedule } => put_schedule(tx, code, *schedule),
         RowWrite::Class { code, class } => put_class(tx, code, class),
         RowWrite::Aggregation {
@@ -322,19 +318,17 @@ fn write_row<S: Alter>(
     }
 }
 
-/// Does the writes one after another, each with its text.
+/// Does the writes one after another.
 pub(crate) fn write_all<S: Alter>(
     tx: &mut Transaction<'_, S>,
-    writes: &[RowWrite],
-    texts: &[String],
+    writes: &[EncodedWrite<'_>],
 ) -> Result<(), Error>
-    requires { map (λ text. string_bytes text) texts.now ≡ map needed_text writes.now }
     ensures same_reference { tx.new.conn.ghost_name ≡ tx.old.conn.ghost_name }
     ensures written { GoesInside version_2 (AreWritten writes.now) (state S.Store tx.old.conn.now)
         (state S.Store tx.new.conn.now) result }
 {
-    for at in 0..writes.len() {
-        write_row(tx, &writes[at], texts[at].as_str())?;
+    for write in writes {
+        write_row(tx, write)?;
     }
     Ok(())
 }

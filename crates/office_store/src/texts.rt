@@ -1,5 +1,5 @@
-//! The texts that a write needs beside its values, made before a transaction begins.
-ghost use Rattle.std.specs.Prelude.{◌≡◌, IfOk, map};
+//! The texts that a write needs beside its values.
+ghost use Rattle.std.specs.Prelude.{◌≡◌, IfOk};
 ghost use Rattle.std.specs.String.{string_bytes};
 ghost use Rattle.office_store.specs.Encoded.{target_kind, target_text};
 ghost use Rattle.office_store.specs.Written.{needed_text};
@@ -33,7 +33,7 @@ fn target_text(alloc: Global, target: &Target) -> Result<String, Memory>
 }
 
 /// The text that a write needs: a digest's digits, or a target's code or number.
-fn needed_text(alloc: Global, write: &RowWrite) -> Result<String, Memory>
+pub(crate) fn needed_text(alloc: Global, write: &RowWrite) -> Result<String, Memory>
     ensures { IfOk result (λ text. string_bytes text ≡ needed_text write.now) }
 {
     match write {
@@ -43,16 +43,4 @@ fn needed_text(alloc: Global, write: &RowWrite) -> Result<String, Memory>
         }
         _ => Ok(String::new(alloc)),
     }
-}
-
-/// The texts that these writes need, one for each.
-pub fn needed_texts(alloc: Global, writes: &[RowWrite]) -> Result<Vec<String>, Memory>
-    ensures { IfOk result
-        (λ texts. map (λ text. string_bytes text) texts.items ≡ map needed_text writes.now) }
-{
-    let mut texts = Vec::with_capacity(alloc, writes.len())?;
-    for write in writes {
-        texts.push(needed_text(alloc, write)?)?;
-    }
-    Ok(texts)
 }

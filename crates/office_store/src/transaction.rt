@@ -1,28 +1,26 @@
 //! A change is saved in one transaction.
-ghost use Rattle.std.specs.Prelude.{◌≡◌, false, map};
-ghost use Rattle.std.specs.String.{string_bytes};
+ghost use Rattle.std.specs.Prelude.{◌≡◌, false};
 ghost use Rattle.sqlite.specs.Held.{state};
 ghost use Rattle.sqlite.specs.State.{HasCleanDisk};
-ghost use Rattle.office_store.specs.Written.{Saves, needed_text};
+ghost use Rattle.office_store.specs.Written.{Saves};
 
+use crate::encoded_write::EncodedWrite;
 use crate::row_writes::write_all;
-use office_rules::RowWrite;
 use sqlite::{Alter, Connection, Error};
 
-/// Does the writes, whose texts are made, in one transaction: all of them or, where it fails and
-/// the connection is still open, none.
-pub fn save_writes<S: Alter>(
+/// Does the writes in one transaction: all of them or, where it fails and the connection is still
+/// open, none.
+pub(crate) fn save_writes<S: Alter>(
     conn: &mut Connection<S>,
-    writes: &[RowWrite],
-    texts: &[String],
+    writes: &[EncodedWrite<'_>],
 ) -> Result<(), Error>
-    requires idle { conn.old.in_transaction ≡ false }
-    requires texts { map (λ text. string_bytes text) texts.now ≡ map needed_text writes.now }
+    requires { conn.old.in_transaction ≡ false }
     ensures saves { Saves writes.now (state S.Store conn.old) (state S.Store conn.new) result }
     ensures clean { HasCleanDisk (state S.Store conn.new) → HasCleanDisk (state S.Store conn.old) }
+    ensures shield { (state S.Store conn.old).IsShielded → (state S.Store conn.new).IsShielded }
     ensures ended { conn.new.in_transaction ≡ false }
 {
     let mut tx = conn.transaction();
-    write_all(&mut tx, writes, texts)?;
+    write_all(&mut tx, writes)?;
     tx.commit()
 }

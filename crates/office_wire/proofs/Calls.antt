@@ -8,7 +8,7 @@ use Rattle.office_wire.specs.Calling.{AnsweredAt, CalledAt}
 
 -- what follows from what was done is done
 pub called : {S : Type 0} (g : Ghosts S) (old new : DeskState S) (P Q : State → Type 0) → CalledAt g old new P → ((t : State) → P t → Q t) → CalledAt g old new Q
-called g old new P Q it to = record { clean = it.clean; did = λ t clean at. to t (it.did t clean at) }
+called g old new P Q it to = record { clean = it.clean; shield = it.shield; did = λ t clean at. to t (it.did t clean at) }
 
 pub answered : {S : Type 0} (g : Ghosts S) (old new : DeskState S) (P Q : State → Type 0) (Gone Away Reported Said : Type 0)
     → AnsweredAt g old new P Gone Reported → ((t : State) → P t → Q t) → (Gone → Away) → (Reported → Said) → AnsweredAt g old new Q Away Said
@@ -26,12 +26,13 @@ pub called_on : {S : Type 0} (g : Ghosts S) (old mid new : DeskState S) (P Q R :
 called_on g old mid new P Q R first second on =
     record {
       clean = λ clean. first.clean (second.clean clean);
+      shield = λ shielded. second.shield (first.shield shielded);
       did = λ s clean at. let next = on s (first.did s (second.clean clean) at) in next.2 (second.did next.0 clean next.1);
     }
 
 -- nothing was done
 pub not_called : {S : Type 0} (g : Ghosts S) (desk : DeskState S) (P : State → Type 0) → ((t : State) → IsAt g t desk → P t) → CalledAt g desk desk P
-not_called g desk P none = record { clean = λ clean. clean; did = λ t clean at. none t at }
+not_called g desk P none = record { clean = λ clean. clean; shield = λ shielded. shielded; did = λ t clean at. none t at }
 
 -- and a desk that is open stays so
 still_open : {Reported : Type 0} (b : Bool) → b ≡ false → IsTrue b → Reported

@@ -18,4 +18,5 @@ returns g c =
       read = λ tables mine. table_read tables t mine (λ rows. rows.items) old new calls.result shows survives;
       mode = calls.ensures.mode;
       clean = clean_before old new calls.ensures.survives;
+      shield = calls.ensures.survives.shield;
     }

@@ -24,6 +24,7 @@ returns-in_err-rows-clause-reads g c ed =
       version = search rules;
       leaves = λ clean rest db may. elim ((all.survives rest.office.has).crash clean db may) [ inl left ↦ left | inr never ↦ absurd never ];
       clean = search rules;
+      shield = search rules;
     }
 
 pub returns-clause-reads : goal.returns-clause-reads
@@ -46,6 +47,7 @@ returns-clause-reads g c ed =
       version = λ clean rest. IfErr-weaker c.day_of.result _ _ (λ fault is other. let v = is other in (v.0, v.1, v.2, rw v.3 at (held clean rest), v.4, v.5)) c.day_of.ensures.version;
       leaves = λ clean rest db may. elim ((read.survives rest.office.has).crash clean db may) [ inl left ↦ left | inr never ↦ absurd never ];
       clean = search rules;
+      shield = search rules;
     }
 
 pub returns-clause-this_version : goal.returns-clause-this_version

@@ -17,20 +17,20 @@ pub returns-in_err-check_edition-clause-takes : goal.returns-in_err-check_editio
 returns-in_err-check_edition-clause-takes g c e =
     let failed = err_from_is_err_and c.from_residual-in_err-check_edition.result c.from_residual-in_err-check_edition.ensures.1 in
     edition_refused e (state g.S.Store c.args.conn.now) (state g.S.Store c.check_edition.new.conn) (g.I.Intake.content c.args.intake.now) (g.I.Intake.content c.args.intake.now) g.I.Intake.examines c.from_residual-in_err-check_edition.result
-    (state g.S.Store c.office_day.new.conn) (c.in_ok-edition.edition, c.in_ok-edition.day) c.in_err-check_edition.field-0.0 (failed.1 ∙ ap Err failed.2) (c.in_ok-edition.ensures.reads e) (λ rest. c.in_err-check_edition.ensures.confirms e (c.layout-named.ensures ∙ layout_is e _ rest.office)) c.in_err-check_edition.ensures.faults c.check_edition.ensures.clean
+    (state g.S.Store c.office_day.new.conn) (c.in_ok-edition.edition, c.in_ok-edition.day) c.in_err-check_edition.field-0.0 (failed.1 ∙ ap Err failed.2) (c.in_ok-edition.ensures.reads e) (λ rest. c.in_err-check_edition.ensures.confirms e (c.layout-named.ensures ∙ layout_is e _ rest.office)) c.in_err-check_edition.ensures.faults c.check_edition.ensures.clean c.check_edition.ensures.shield
 
 pub returns-in_err-give-clause-takes : goal.returns-in_err-give-clause-takes
 returns-in_err-give-clause-takes g c e =
     let failed = err_from_is_err_and c.from_residual-in_err-give.result c.from_residual-in_err-give.ensures.1 in
     day_refused e (state g.S.Store c.args.conn.now) (state g.S.Store c.check_edition.new.conn) (g.I.Intake.content c.args.intake.now) (g.I.Intake.content c.give.new.intake) g.I.Intake.examines c.from_residual-in_err-give.result
-    (state g.S.Store c.office_day.new.conn) (c.in_ok-edition.edition, c.in_ok-edition.day) c.in_err-give.field-0.0 (failed.1 ∙ ap Err failed.2) (c.in_ok-edition.ensures.reads e) (λ rest. c.in_ok-check_edition.ensures.confirms e (c.layout-named.ensures ∙ layout_is e _ rest.office)) c.check_edition.ensures.clean
+    (state g.S.Store c.office_day.new.conn) (c.in_ok-edition.edition, c.in_ok-edition.day) c.in_err-give.field-0.0 (failed.1 ∙ ap Err failed.2) (c.in_ok-edition.ensures.reads e) (λ rest. c.in_ok-check_edition.ensures.confirms e (c.layout-named.ensures ∙ layout_is e _ rest.office)) c.check_edition.ensures.clean c.check_edition.ensures.shield
     c.in_err-give.ensures.damaged c.in_err-give.ensures.examined c.in_err-give.ensures.faults
 
 pub returns-clause-takes : goal.returns-clause-takes
 returns-clause-takes g c e =
     rest_taken e (state g.S.Store c.args.conn.now) (state g.S.Store c.take_rest.new.conn) (g.I.Intake.content c.args.intake.now) (g.I.Intake.content c.take_rest.new.intake) g.I.Intake.examines c.take_rest.result
     (state g.S.Store c.office_day.new.conn) (state g.S.Store c.check_edition.new.conn) (g.I.Intake.content c.give.new.intake) (c.in_ok-edition.edition, c.in_ok-edition.day) c.in_ok-edition.ensures.formed
-    (c.in_ok-edition.ensures.reads e) (λ rest. c.in_ok-check_edition.ensures.confirms e (c.layout-named.ensures ∙ layout_is e _ rest.office)) c.check_edition.ensures.clean c.in_ok-give.ensures.ok c.take_rest.ensures.takes
+    (c.in_ok-edition.ensures.reads e) (λ rest. c.in_ok-check_edition.ensures.confirms e (c.layout-named.ensures ∙ layout_is e _ rest.office)) c.check_edition.ensures.clean c.check_edition.ensures.shield c.in_ok-give.ensures.ok c.take_rest.ensures.takes
 
 pub returns-clause-version : goal.returns-clause-version
 returns-clause-version g c =

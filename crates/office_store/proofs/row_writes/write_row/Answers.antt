@@ -1,4 +1,4 @@
-use Rattle.std.proofs.Common.{◌≡◌, ◌∷◌, [], subst, rules}
+use Rattle.std.proofs.Common.{◌≡◌, ◌∷◌, [], subst, sym, rules}
 use Rattle.sqlite.specs.Held.{state}
 use Rattle.office_sql.specs.Editions.{version_2}
 use Rattle.office_sql.specs.Office.{GoesInside, Removed, Wrote}
@@ -9,44 +9,44 @@ use Rattle.office_store.specs.Encoded.{target_kind, target_shown}
 use Rattle.office_store.proofs.row_writes.write_row.Goals as goal
 
 pub returns-in-Schedule-clause-written : goal.returns-in-Schedule-clause-written
-returns-in-Schedule-clause-written g c = rw c.in-Schedule.is c.put_schedule.ensures.written
+returns-in-Schedule-clause-written g c = rw (sym c.it.view_is, c.in-Schedule.is) c.put_schedule.ensures.written
 
 pub returns-in-Class-clause-written : goal.returns-in-Class-clause-written
-returns-in-Class-clause-written g c = rw c.in-Class.is c.put_class.ensures.written
+returns-in-Class-clause-written g c = rw (sym c.it.view_is, c.in-Class.is) c.put_class.ensures.written
 
 pub returns-in-Aggregation-clause-written : goal.returns-in-Aggregation-clause-written
-returns-in-Aggregation-clause-written g c = rw c.in-Aggregation.is c.put_aggregation.ensures.written
+returns-in-Aggregation-clause-written g c = rw (sym c.it.view_is, c.in-Aggregation.is) c.put_aggregation.ensures.written
 
 pub returns-in-Record-clause-written : goal.returns-in-Record-clause-written
-returns-in-Record-clause-written g c = rw c.in-Record.is c.put_record.ensures.written
+returns-in-Record-clause-written g c = rw (sym c.it.view_is, c.in-Record.is) c.put_record.ensures.written
 
 pub returns-in-Hold-clause-written : goal.returns-in-Hold-clause-written
-returns-in-Hold-clause-written g c = rw c.in-Hold.is c.put_hold.ensures.written
+returns-in-Hold-clause-written g c = rw (sym c.it.view_is, c.in-Hold.is) c.put_hold.ensures.written
 
 pub returns-in-Run-clause-written : goal.returns-in-Run-clause-written
-returns-in-Run-clause-written g c = rw c.in-Run.is c.put_run.ensures.written
+returns-in-Run-clause-written g c = rw (sym c.it.view_is, c.in-Run.is) c.put_run.ensures.written
 
 pub returns-in-Entry-clause-written : goal.returns-in-Entry-clause-written
-returns-in-Entry-clause-written g c = rw c.in-Entry.is c.put_entry.ensures.written
+returns-in-Entry-clause-written g c = rw (sym c.it.view_is, c.in-Entry.is) c.put_entry.ensures.written
 
 pub returns-in-Content-clause-written : goal.returns-in-Content-clause-written
-returns-in-Content-clause-written g c = let put = c.put_content.ensures.written version_2 has_contents in search (rules, put)
+returns-in-Content-clause-written g c = let put = c.put_content.ensures.written version_2 has_contents in rw (sym c.it.view_is) (search (rules, put))
 
 pub returns-in-ContentGone-clause-written : goal.returns-in-ContentGone-clause-written
-returns-in-ContentGone-clause-written g c = let removed = c.remove_content.ensures.removed version_2 has_contents in search (rules, removed)
+returns-in-ContentGone-clause-written g c = let removed = c.remove_content.ensures.removed version_2 has_contents in rw (sym c.it.view_is) (search (rules, removed))
 
 pub returns-in-Certificate-clause-written : goal.returns-in-Certificate-clause-written
-returns-in-Certificate-clause-written g c = let put = c.put_certificate.ensures.written version_2 has_certificates in search (rules, put)
+returns-in-Certificate-clause-written g c = let put = c.put_certificate.ensures.written version_2 has_certificates in rw (sym c.it.view_is) (search (rules, put))
 
 pub returns-in-Day-clause-written : goal.returns-in-Day-clause-written
-returns-in-Day-clause-written g c = rw c.in-Day.is c.put_day.ensures.written
+returns-in-Day-clause-written g c = rw (sym c.it.view_is, c.in-Day.is) c.put_day.ensures.written
 
 pub returns-in-Target-clause-written : goal.returns-in-Target-clause-written
 returns-in-Target-clause-written g c =
-    let same : target_row c.in-Target.hold (target_kind c.in-Target.target) c.args.text.now ≡ target_shown c.in-Target.hold c.in-Target.target = search rules in
-    rw c.in-Target.is (subst (λ row. GoesInside {X = Unit {0}} version_2 (Wrote version_2 targets ((0 ∷ 1 ∷ 2 ∷ []) ∷ []) row) (state g.S.Store c.args.tx.now.conn.now) (state g.S.Store c.put_target.new.tx.conn.now) c.put_target.result) same (c.put_target.ensures.written version_2 has_targets))
+    let same : target_row c.in-Target.hold (target_kind c.in-Target.target) c.as_str-text.result.now ≡ target_shown c.in-Target.hold c.in-Target.target = search rules in
+    rw (sym c.it.view_is, c.in-Target.is) (subst (λ row. GoesInside {X = Unit {0}} version_2 (Wrote version_2 targets ((0 ∷ 1 ∷ 2 ∷ []) ∷ []) row) (state g.S.Store c.args.tx.now.conn.now) (state g.S.Store c.put_target.new.tx.conn.now) c.put_target.result) same (c.put_target.ensures.written version_2 has_targets))
 
 pub returns-in-TargetGone-clause-written : goal.returns-in-TargetGone-clause-written
 returns-in-TargetGone-clause-written g c =
-    let same : target_row c.text.result.now c.target_kind.result.now c.args.text.now ≡ target_shown c.in-TargetGone.hold c.in-TargetGone.target = search rules in
-    rw c.in-TargetGone.is (subst (λ row. GoesInside {X = Unit {0}} version_2 (Removed version_2 targets ((0 ∷ 1 ∷ 2 ∷ []) ∷ []) row) (state g.S.Store c.args.tx.now.conn.now) (state g.S.Store c.remove_target.new.tx.conn.now) c.remove_target.result) same (c.remove_target.ensures.removed version_2 has_targets))
+    let same : target_row c.text.result.now c.target_kind.result.now c.as_str-text.result.now ≡ target_shown c.in-TargetGone.hold c.in-TargetGone.target = search rules in
+    rw (sym c.it.view_is, c.in-TargetGone.is) (subst (λ row. GoesInside {X = Unit {0}} version_2 (Removed version_2 targets ((0 ∷ 1 ∷ 2 ∷ []) ∷ []) row) (state g.S.Store c.args.tx.now.conn.now) (state g.S.Store c.remove_target.new.tx.conn.now) c.remove_target.result) same (c.remove_target.ensures.removed version_2 has_targets))

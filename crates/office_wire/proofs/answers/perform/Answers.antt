@@ -13,6 +13,7 @@ returns-in-Ok g c =
     record {
       call = record {
         clean = it.rest.clean;
+        shield = it.rest.shield;
         did = λ t clean at. record {
           outcome = _;
           reported = outcome_seen (Ok c.in-Ok.field-0) _ _ _ (IsGiven c.acts_reply.result) c.new-answers.ensures.items c.as_slice.ensures.value c.acts_reply.ensures;
@@ -32,6 +33,7 @@ returns g c =
     record {
       call = record {
         clean = it.rest.clean;
+        shield = it.rest.shield;
         did = λ t clean at. record {
           outcome = _;
           reported = outcome_seen (Err c.in-Err.fault) _ _ _ (IsGiven c.stopped_reply.result) c.new-answers.ensures.items c.as_slice-in-Err.ensures.value c.stopped_reply.ensures;

@@ -14,6 +14,7 @@ returns-in-Ok g c =
     record {
       call = record {
         clean = it.rest.clean;
+        shield = it.rest.shield;
         did = λ t clean at. rw c.in-Some.is (content_found (Ok c.in-Ok.content), c.content_reply.ensures, it.leaves t clean at);
       };
       kept = λ was. (it.gone was).1;
@@ -28,6 +29,7 @@ returns-in-Err g c =
     record {
       call = record {
         clean = it.rest.clean;
+        shield = it.rest.shield;
         did = λ t clean at. rw c.in-Some.is (unreported_at g.S.Store t c.in-Some.record_no c.in-Err.fault c.content.new.self (it.leaves t clean at) c.fault_reply.result c.fault_reply.ensures);
       };
       kept = λ was. (it.gone was).1;

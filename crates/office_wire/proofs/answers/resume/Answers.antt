@@ -16,6 +16,7 @@ returns-in-Ok g c =
     record {
       call = record {
         clean = it.rest.clean;
+        shield = it.rest.shield;
         did = λ t clean at. (
           run_outcome (Ok c.in-Ok.answer) was_open,
           run_seen c.in-Ok.answer was_open (IsGiven c.answer_reply.result) (it.answered t at.is_open (sym at.office)).answered c.answer_reply.ensures,
@@ -32,7 +33,7 @@ pub returns-in-Err : goal.returns-in-Err
 returns-in-Err g c =
     let it = c.in-Err.ensures in
     record {
-      call = record { clean = it.rest.clean; did = λ t clean at. (run_stopped c.in-Err.fault, c.fault_reply.ensures, it.leaves t clean at) };
+      call = record { clean = it.rest.clean; shield = it.rest.shield; did = λ t clean at. (run_stopped c.in-Err.fault, c.fault_reply.ensures, it.leaves t clean at) };
       kept = λ was. (it.gone was).1;
       gone = search rules;
       reported = λ is_open gone. fault_unavailable response c.fault_reply.result _ c.fault_reply.ensures;

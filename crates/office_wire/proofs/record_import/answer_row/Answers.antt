@@ -11,6 +11,7 @@ returns-in-Ok g c =
     let it = c.perform.ensures in
     record {
       clean = it.rest.clean;
+      shield = it.rest.shield;
       did = λ s clean at. row_ended g.S.Store c.args.day s (named c.args.row.now) c.in-Ok.act c.perform.result c.args.desk.now c.perform.new.self c.in-Ok.ensures
           (it.answered s at.is_open (sym at.office)) (it.leaves s clean at);
     }

@@ -13,6 +13,7 @@ returns-in-Ok-Stay-clause-called g c =
     let decided = rw c.in-Ok-Stay.field-0-is at c.in-Ok-Stay.ensures.step in
     record {
       clean = λ clean. clean;
+      shield = λ shielded. shielded;
       did = λ s is_open same.
           let is = stay_step s c.self.inside.machine c.args.act.now c.in-Ok-Stay.answer (same ∙ sym (office_of c.self.view_is)) decided in
           search rules;
@@ -24,6 +25,7 @@ returns-in-Ok-Go-clause-called g c =
     let decided = rw c.in-Ok-Go.field-0-is at c.in-Ok-Go.ensures.step in
     record {
       clean = c.make.ensures.clean;
+      shield = c.make.ensures.shield;
       did = λ s is_open same.
           let by = go_step s c.self.inside.machine c.args.act.now c.in-Ok-Go.change (same ∙ sym (office_of c.self.view_is)) decided in
           done_saved g.S.Store c.make.result s c.args.act.now c.in-Ok-Go.change c.args.self.now c.make.new.self same c.in-Ok-Go.ensures.formed by _ (λ at. at.1) (c.make.ensures.did s is_open same) is_open;

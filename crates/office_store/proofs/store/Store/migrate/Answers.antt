@@ -15,6 +15,7 @@ pub returns-then-version-ne1-clause-moved : goal.returns-then-version-ne1-clause
 returns-then-version-ne1-clause-moved g c = record {
   faults = tt;
   clean = search rules;
+  shield = λ shielded. shielded;
   moved = λ s clean holds.
       let reported : pos c.version.result ≡ pos 1 = c.version.ensures.rest edition.One holds.rest in
       let one : c.version.result ≡ 1 = cc in
@@ -34,6 +35,7 @@ returns-clause-moved g c =
     record {
       faults = search rules;
       clean = search rules;
+      shield = search rules;
       moved = λ s clean holds.
           let t = rows_of s in
           let r = c.migrate_all.result in
