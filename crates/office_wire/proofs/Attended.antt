@@ -33,7 +33,7 @@ use Rattle.office_wire.specs.Replies.{acts_response, answer_response, content_re
 use Rattle.office_wire.specs.Serving.{IsReply, IsReplied, IsServed, Replies}
 use Rattle.office_wire.specs.Sessions.{AreWellAnswered, Attends, IsAnswer, IsAnsweredBy, IsSession, acts_answer, after_asked, after_request, after_resumed, after_wanted, bytes_of}
 use Rattle.office_wire.specs.Sources.{Sent}
-use Rattle.office_wire.proofs.Sessions.{begun, same_session, went_on}
+use Rattle.office_wire.proofs.SessionSteps.{begun, same_session, went_on}
 use Rattle.office_wire.proofs.Unavailable.{memory_unavailable}
 
 -- an answer that reports no fault and no lack of memory

@@ -9,7 +9,7 @@ pub mod Performed
 pub mod Replied
 pub mod Reported
 pub mod Resumed
-pub mod Sessions
+pub mod SessionSteps
 pub mod SortedOnce
 pub mod Unavailable
 pub mod Unreported

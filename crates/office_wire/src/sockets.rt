@@ -18,6 +18,7 @@ const ACCEPT_PAUSE: u64 = 100;
 
 /// The connections that a listener accepts, each within its time by the clock. One that fails is
 /// reported on `err`.
+#[derive(Drop)]
 pub(crate) struct Sockets<'a, L, K, E> {
     pub(crate) alloc: Global,
     pub(crate) listener: &'a L,

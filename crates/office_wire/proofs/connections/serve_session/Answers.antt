@@ -1,5 +1,6 @@
 use Rattle.std.proofs.Common.{arith, rules}
 use Rattle.office_wire.proofs.Connected.{next_serving, none_serving, one_more}
+use Rattle.office_wire.proofs.Exchanged.{some_more_served}
 use Rattle.office_wire.proofs.connections.serve_session.Goals as goal
 
 pub loop-before-init : goal.loop-before-init
@@ -16,3 +17,7 @@ returns-then-ends_after-clause-all g c =
       most = omega arith;
       all = search rules;
     }
+
+pub returns-then-ends_after-clause-served : goal.returns-then-ends_after-clause-served
+returns-then-ends_after-clause-served g c =
+    rw c.failed_by-has_failed.ensures (some_more_served g.S.Store _ _ _ _ _ _ _ _ _ c.loop-before.invariant.served c.serve_next-served.ensures.next)

@@ -1,5 +1,5 @@
 use Rattle.office_wire.proofs.Attended.{attended, attended_alike}
-use Rattle.office_wire.proofs.Sessions.{same_session}
+use Rattle.office_wire.proofs.SessionSteps.{same_session}
 use Rattle.office_wire.proofs.sessions.law_of_sessions.Goals as goal
 
 pub returns : goal.returns
