@@ -1,12 +1,16 @@
 -- How serving goes on.
-use Rattle.std.proofs.Common.{ℕ, ◌+◌, Bool, false, ◌||◌, Result, refl}
+use Rattle.std.proofs.Common.{ℕ, ◌+◌, Bool, false, ◌||◌, Option, Result, refl}
+use Rattle.std.specs.Prelude.{IfSome}
 use native.Mathlib.Numerals.{unary_clauses}
 use Rattle.sqlite_trees.specs.declared.store.Store.{Ghosts}
 use Rattle.office_base.specs.declared.output.Io.{Io}
 use Rattle.office_desk.specs.Desk.{DeskState}
 use Rattle.office_wire.specs.Connections.{Ends, Turn, Turns, has_failed}
+use Rattle.office_wire.specs.Exchanges.{AreServed, IsNextServed}
+use Rattle.office_wire.specs.Sources.{Told}
+use Rattle.office_wire.proofs.Exchanged.{some_more_served, some_none_served}
 
-pub none_yet : {S : Type 0} (g : Ghosts S) (desk : DeskState S) → Turns g 0 false false desk desk
+none_yet : {S : Type 0} (g : Ghosts S) (desk : DeskState S) → Turns g 0 false false desk desk
 unfolding Turns
 none_yet g desk = (refl, refl, refl)
 
@@ -16,3 +20,21 @@ pub one_more :
     → Turns g (n + 1) (failed || has_failed status) ended old new
 unfolding Turns
 one_more g n failed ended status old m new served turn ends = simp unary_clauses (m, failed, status, served, turn, ends, refl)
+
+-- so many connections were served; of a source that reports their bytes it is known which
+pub record IsServing {C S : Type 0} (g : Ghosts S) (told : C → Option Told) (n : ℕ) (failed : Bool) (first source : C) (old new : DeskState S) : Type 0 where
+  pub turns : Turns g n failed false old new
+  pub served : IfSome (told first) (λ before. AreServed g n failed before (told source) old new)
+
+pub none_serving : {C S : Type 0} (g : Ghosts S) (told : C → Option Told) (source : C) (desk : DeskState S) → IsServing g told 0 false source source desk desk
+none_serving g told source desk = record { turns = none_yet g desk; served = some_none_served g desk (told source) }
+
+pub next_serving :
+    {C S : Type 0} (g : Ghosts S) (told : C → Option Told) (n : ℕ) (failed : Bool) (status : Result ℕ Io) (first before after : C) (old m new : DeskState S)
+    → IsServing g told n failed first before old m → Turn g status m new → IfSome (told before) (λ it. IsNextServed g status it (told after) m new) → Ends status new.is_poisoned false
+    → IsServing g told (n + 1) (failed || has_failed status) first after old new
+next_serving g told n failed status first before after old m new serving turn next ends =
+    record {
+      turns = one_more g n failed false status old m new serving.turns turn ends;
+      served = some_more_served g old n failed (told first) (told before) (told after) status m new serving.served next;
+    }

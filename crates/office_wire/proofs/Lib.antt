@@ -1,11 +1,16 @@
 pub mod AnyAnswer
+pub mod Attended
 pub mod Calls
 pub mod Connected
+pub mod DueOnce
+pub mod Exchanged
 pub mod Imported
 pub mod Performed
 pub mod Replied
 pub mod Reported
 pub mod Resumed
+pub mod SessionSteps
+pub mod SortedOnce
 pub mod Unavailable
 pub mod Unreported
 pub mod Whatever

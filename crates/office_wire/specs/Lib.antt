@@ -1,7 +1,11 @@
 pub mod Answering
 pub mod Calling
 pub mod Connections
+pub mod Exchanges
 pub mod Exporting
 pub mod Importing
 pub mod Replies
+pub mod RequestLists
 pub mod Serving
+pub mod Sessions
+pub mod Sources
