@@ -1,0 +1,4 @@
+pub mod ActKinds
+pub mod Places
+pub mod Lasting
+pub mod Coming
