@@ -38,9 +38,10 @@ pub record DidTake (run r : ℕ) (e : Entry) (s : State) (a : Act) : Type 0 wher
   pub comes : outcome_of s.office r ≡ Some outcome
   pub answered : (step s a).0 ≡ answer.Step r outcome
   pub is : e ≡ entry_of s.office run r outcome
+  pub written : get (step s a).1.office.entries (run, r) ≡ Some e
 
 -- what a step that took a record did
-pub taken_by : (s : State) (a : Act) → IsSound s → (q : Takes s (step s a).0 (step s a).1) → (o : Outcome) × DidTake q.run q.r (entry_of s.office q.run q.r o) s a × (get (step s a).1.office.entries (q.run, q.r) ≡ Some (entry_of s.office q.run q.r o))
+pub taken_by : (s : State) (a : Act) → IsSound s → (q : Takes s (step s a).0 (step s a).1) → (o : Outcome) × DidTake q.run q.r (entry_of s.office q.run q.r o) s a
 taken_by s a sound q =
     let it = taken s q.run q.r sound q.next in
     let o = it.3 in
@@ -53,20 +54,22 @@ taken_by s a sound q =
         comes = it.4.comes;
         answered = q.answered ∙ ap (λ (x : Option Outcome). answer.Step q.r (unwrap_or x outcome.Skipped)) it.4.comes;
         is = refl;
+        written =
+            ap (λ (t : State). get t.office.entries (q.run, q.r)) q.is
+            ∙ ap (λ m. get m (q.run, q.r)) (entries_of_taken s q.run q.r o it.4.comes)
+            ∙ put_here entry_total entry_cmp-IsAntisymmetric s.office.entries (q.run, q.r) (entry_of s.office q.run q.r o);
       },
-      ap (λ (t : State). get t.office.entries (q.run, q.r)) q.is
-      ∙ ap (λ m. get m (q.run, q.r)) (entries_of_taken s q.run q.r o it.4.comes)
-      ∙ put_here entry_total entry_cmp-IsAntisymmetric s.office.entries (q.run, q.r) (entry_of s.office q.run q.r o),
     )
 
-same_take : (s : State) (a : Act) (run r other q : ℕ) (e f : Entry) → run ≡ other → r ≡ q → f ≡ e → DidTake other q f s a → DidTake run r e s a
-same_take s a run r other q e f runs records same it = record {
+same_take : (s : State) (a : Act) (run r other q : ℕ) (e f : Entry) → run ≡ other → r ≡ q → f ≡ e → get (step s a).1.office.entries (run, r) ≡ Some e → DidTake other q f s a → DidTake run r e s a
+same_take s a run r other q e f runs records same there it = record {
   open_is = it.open_is ∙ ap (λ (n : ℕ). Some n) (sym runs);
   next = ap (next_ready s.office) runs ∙ it.next ∙ ap (λ (n : ℕ). Some n) (sym records);
   outcome = it.outcome;
   comes = ap (outcome_of s.office) records ∙ it.comes;
   answered = it.answered ∙ ap (λ n. answer.Step n it.outcome) (sym records);
   is = sym same ∙ it.is ∙ (λ i. entry_of s.office (sym runs i) (sym records i) it.outcome);
+  written = there;
 }
 
 pub entry_comes : (run r : ℕ) (e : Entry) → Comes (HasEntry run r e) (DidTake run r e)
@@ -81,7 +84,7 @@ entry_comes run r e s a sound there = elim (kind_of s a) [
       let did = taken_by s a sound q in
       elim (put_cases entry_total entry_cmp-IsAntisymmetric s.office.entries (q.run, q.r) new (run, r) e
       (ap (λ m. get m (run, r)) (sym (entries_of_taken s q.run q.r it.3 it.4.comes)) ∙ ap (λ (t : State). get t.office.entries (run, r)) (sym q.is) ∙ there)) [
-        | inl here ↦ inr (same_take s a run r q.run q.r e new (ap (λ (k : ℕ × ℕ). k.0) here.0) (ap (λ (k : ℕ × ℕ). k.1) here.0) here.1 did.1)
+        | inl here ↦ inr (same_take s a run r q.run q.r e new (ap (λ (k : ℕ × ℕ). k.0) here.0) (ap (λ (k : ℕ × ℕ). k.1) here.0) here.1 there did.1)
         | inr was ↦ inl was
       ]
   | closes q ↦ inl (ap (λ m. get m (run, r)) (sym (entries_of_closed s q.run)) ∙ ap (λ (t : State). get t.office.entries (run, r)) (sym q.is) ∙ there)
@@ -94,6 +97,7 @@ pub record DidClose (run : ℕ) (text : List ℕ) (s : State) (a : Act) : Type 0
   pub open_is : open_run s.office ≡ Some run
   pub answered : (step s a).0 ≡ answer.RunClosed run
   pub is : text ≡ certificate_of s.office run
+  pub written : get (step s a).1.office.certificates run ≡ Some text
 
 certificates_of_closed : (s : State) (run : ℕ) → (closed s run).office.certificates ≡ insert s.office.certificates run (certificate_of s.office run)
 unfolding closed
@@ -112,6 +116,7 @@ certificate_comes run text s a sound there = elim (kind_of s a) [
             open_is = q.open_is ∙ ap (λ (n : ℕ). Some n) (sym here.0);
             answered = q.answered ∙ ap (λ n. answer.RunClosed n) (sym here.0);
             is = sym here.1 ∙ ap (certificate_of s.office) (sym here.0);
+            written = there;
           })
         | inr was ↦ inl was
       ]
