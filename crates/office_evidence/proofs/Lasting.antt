@@ -82,7 +82,7 @@ abbrev pub HasEntry : ℕ → ℕ → Entry → State → Type 0
 HasEntry run r e s = get s.office.entries (run, r) ≡ Some e
 
 -- an entry's key is another one than that of the record that is taken next
-other_key : (s : State) (run r a q : ℕ) (e : Entry) → IsSound s → open_run s.office ≡ Some run → cursor_of s.office run < r → get s.office.entries (a, q) ≡ Some e → let key : ℕ × ℕ = (a, q) in let next : ℕ × ℕ = (run, r) in key ≢ next
+pub other_key : (s : State) (run r a q : ℕ) (e : Entry) → IsSound s → open_run s.office ≡ Some run → cursor_of s.office run < r → get s.office.entries (a, q) ≡ Some e → let key : ℕ × ℕ = (a, q) in let next : ℕ × ℕ = (run, r) in key ≢ next
 other_key s run r a q e sound open_is above there same =
     let at = open_there s.office run open_is in
     let runs : a ≡ run = ap (λ (k : ℕ × ℕ). k.0) same in

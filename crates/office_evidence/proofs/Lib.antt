@@ -4,3 +4,6 @@ pub mod Lasting
 pub mod Coming
 pub mod Viewed
 pub mod Adding
+pub mod Warrants
+pub mod Openings
+pub mod TrueLines

@@ -38,9 +38,11 @@ done_at s (a ∷ acts) (suc j) reported is =
     let low = rest.within in
     record { done = rest.done; at = rest.at; within = omega arith; answered = rest.answered; next = rest.next }
 
--- and of the act at a place
-pub act_at : (s : State) (acts : List Act) (j : ℕ) (a : Act) → slice_get acts j ≡ Some a → IsDoneAt s acts j (step (before s acts j) a).0
-act_at s acts j a at = done_at s acts j (step (before s acts j) a).0 (answered_at s acts j a at)
+-- the act at a place leads to the state before the next
+pub next_at : (s : State) (acts : List Act) (j : ℕ) (a : Act) → slice_get acts j ≡ Some a → before s acts (suc j) ≡ (step (before s acts j) a).1
+next_at s [] j a at = absurd cc
+next_at s (b ∷ acts) zero a at = let same : b ≡ a = cc in ap (λ (x : Act). (step s x).1) same
+next_at s (b ∷ acts) (suc j) a at = next_at (step s b).1 acts j a at
 
 -- ---- what lasts
 
