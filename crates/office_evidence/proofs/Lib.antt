@@ -7,3 +7,5 @@ pub mod Adding
 pub mod Warrants
 pub mod Openings
 pub mod TrueLines
+pub mod WellFormed
+pub mod Truths

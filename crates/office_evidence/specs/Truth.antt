@@ -26,7 +26,7 @@ use Rattle.office_rules.specs.declared.answer.Answer.TheVariants.{Number}
 use Rattle.office_rules.specs.declared.outcome.Outcome.{Outcome}
 use Rattle.office_rules.specs.declared.outcome.Outcome.TheVariants.{Destroyed, Transferred, Sent, Skipped}
 use Rattle.office_evidence.specs.History.{IsClosedAt, IsOpenedAt, IsStepAt, before}
-use Rattle.office_evidence.specs.Parsed.{Certificate}
+use Rattle.office_evidence.specs.Parsed.{Certificate, IsTextOf}
 use Rattle.office_evidence.specs.declared.parsed.EntryLine.{EntryLine}
 
 -- ---- a line
@@ -132,3 +132,10 @@ pub record IsTrueOf (s : State) (acts : List Act) (c : Certificate) (text : List
   pub lines : AreTheSteps s acts c opening closing
   pub no_other : NoOtherWent s acts c opening closing
   pub kept : (n : ℕ) → closing < n → get (before s acts n).office.certificates c.run ≡ Some text
+
+-- the text is that of a certificate of the run, which is true of the acts
+pub record IsTrueCertificate (s : State) (acts : List Act) (run : ℕ) (text : List ℕ) : Type 0 where
+  pub certificate : Certificate
+  pub reads : IsTextOf certificate text
+  pub of_run : certificate.run ≡ run
+  pub is_true : IsTrueOf s acts certificate text
