@@ -9,3 +9,4 @@ pub mod Openings
 pub mod TrueLines
 pub mod WellFormed
 pub mod Truths
+pub mod Joining

@@ -10,5 +10,6 @@
 
 pub mod laws;
 mod parsed;
+mod written;
 
 pub use parsed::{EntryLine, ParsedCertificate, SpentLine};
