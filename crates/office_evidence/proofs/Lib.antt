@@ -10,3 +10,4 @@ pub mod TrueLines
 pub mod WellFormed
 pub mod Truths
 pub mod Joining
+pub mod ReadWords

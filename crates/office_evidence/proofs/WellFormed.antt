@@ -33,8 +33,7 @@ formed_line e o head there entry record_formed holds few =
       class = entry.class;
       schedule = entry.schedule;
       due = entry.due;
-      hold = entry.hold;
-      skipped = holds;
+      hold = record { form = entry.hold; skipped = holds };
       confirmed_by = entry.confirmed_by;
       length_few = omega arith;
       digest = record_formed.digest;

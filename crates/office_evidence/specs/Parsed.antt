@@ -62,15 +62,19 @@ text_of c = sealed (lines_text (lines_of c))
 
 -- ---- its form
 
--- every number, text, code, day and digest is of its form; a hold is named exactly of a skipped record
+-- a hold is named exactly of a skipped record
+pub record IsHoldOf (outcome : Outcome) (hold : Option (List ℕ)) : Type 0 where
+  pub form : IfSome hold IsCode
+  pub skipped : IsSome hold ↔ (outcome ≡ Skipped)
+
+-- every number, text, code, day and digest is of its form, and so is the hold
 pub record IsWellFormedLine (line : EntryLine) : Type 0 where
   pub record_few : line.record_no < 2 ^ 32
   pub ref_text : IsText line.ref_text
   pub class : IsCode line.class
   pub schedule : IsCode line.schedule
   pub due : IsDueNumber line.due
-  pub hold : IfSome line.hold IsCode
-  pub skipped : IsSome line.hold ↔ (line.outcome ≡ Skipped)
+  pub hold : IsHoldOf line.outcome line.hold
   pub confirmed_by : IsText line.confirmed_by
   pub length_few : line.length < 2 ^ 32
   pub digest : IsDigest line.digest

@@ -10,6 +10,7 @@
 
 pub mod laws;
 mod parsed;
+mod words;
 mod written;
 
 pub use parsed::{EntryLine, ParsedCertificate, SpentLine};
