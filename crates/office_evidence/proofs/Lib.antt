@@ -11,3 +11,5 @@ pub mod WellFormed
 pub mod Truths
 pub mod Joining
 pub mod ReadWords
+pub mod DueWords
+pub mod Splitting

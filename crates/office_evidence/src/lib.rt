@@ -9,6 +9,7 @@
 #![tactic(auto)]
 
 pub mod laws;
+mod lines;
 mod parsed;
 mod words;
 mod written;
