@@ -1,0 +1,15 @@
+pub mod ActKinds
+pub mod Places
+pub mod Lasting
+pub mod Coming
+pub mod Viewed
+pub mod Adding
+pub mod Warrants
+pub mod Openings
+pub mod TrueLines
+pub mod WellFormed
+pub mod Truths
+pub mod Joining
+pub mod ReadWords
+pub mod DueWords
+pub mod Splitting

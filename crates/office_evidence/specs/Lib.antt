@@ -1,0 +1,4 @@
+pub mod History
+pub mod Parsed
+pub mod Reading
+pub mod Truth
