@@ -2,9 +2,9 @@
 ghost use Rattle.std.specs.Prelude.{◌≡◌};
 ghost use Rattle.office_command_line.specs.Disks.{finishes_sectors};
 
-use crate::ended;
+use crate::{ended, read_file};
 use office_command_line::{Disk, Order, UnknownDisk, disk_of};
-use office_commands::{Ending, Routes, open_and_run, open_and_serve};
+use office_commands::{Ending, Routes, open_and_apply, open_and_run, open_and_serve};
 use office_store::Fault;
 use sqlite::{Start, Unknown, Wary};
 use std::env::VarError;
@@ -52,7 +52,35 @@ fn make_private(rt: &HostRuntime, file: &str) {
         .open(rt, file);
 }
 
-/// Carries out an order on the office at a place, whose files are opened by this start.
+/// Does acts at the office at a place, whose files are opened by this start.
+fn apply_over<S: Start>(rt: &HostRuntime, place: Place<'_>, start: S, text: &[u8]) -> Ending
+    requires { S.Start.is_mixing ≡ finishes_sectors place.disk }
+{
+    // a line goes out in one write
+    match LineWriter::new(rt.alloc(), io::writer(rt)) {
+        Ok(mut out) => {
+            make_private(rt, place.file);
+            let (ending, _left) = open_and_apply(rt, place.file, start, text, &mut out);
+            ending
+        }
+        Err(_) => Ending::Fault(Fault::Memory),
+    }
+}
+
+/// Does the acts of a file, which is read into memory before the office's file is opened, at the
+/// office at a place.
+pub(crate) fn apply_in(rt: &HostRuntime, place: Place<'_>, acts: &str) -> Ending {
+    let text = match read_file(rt, acts) {
+        Ok(text) => text,
+        Err(stop) => return Ending::from(stop),
+    };
+    match place.disk {
+        Disk::Any => apply_over(rt, place, Wary, &text),
+        Disk::PowerSafe => apply_over(rt, place, Unknown, &text),
+    }
+}
+
+/// Runs a command on the office at a place, whose files are opened by this start.
 fn run_over<S: Start, R: Read>(
     rt: &HostRuntime,
     place: Place<'_>,
@@ -76,10 +104,10 @@ fn run_over<S: Start, R: Read>(
     }
 }
 
-/// Carries out an order on the office at a place, whose file is made where there is none; `input`
-/// is what the order reads. A file that is no database's stays as it is. Where it is not closed,
+/// Runs a command on the office at a place, whose file is made where there is none; `input` is what
+/// the command reads. A file that is no database's stays as it is. Where it is not closed,
 /// the file and its log still have every act.
-pub(crate) fn run_from<R: Read>(
+pub(crate) fn run_in<R: Read>(
     rt: &HostRuntime,
     place: Place<'_>,
     order: &Order<'_>,

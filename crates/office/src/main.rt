@@ -1,6 +1,6 @@
 //! The program `office` of the records disposal office.
 //!
-//! Its words are read by `office_command_line`. The commands that open no office are done by
+//! Its command line is read by `office_command_line`. The commands that open no office are done by
 //! `office_plan`; those on the office in a file by `office_commands`, which opens it (`disks`). What is
 //! here joins the process's own streams, files and socket to them: for `serve` a port is bound
 //! first.
@@ -8,13 +8,14 @@
 
 mod disks;
 
-use crate::disks::{Place, disk_of_process, run_from, serve_in};
+use crate::disks::{Place, apply_in, disk_of_process, run_in, serve_in};
 use clap::error::ErrorKind;
 use office_base::{Stop, read_whole};
-use office_command_line::{Disk, Order, Words, order_of, read_words};
+use office_command_line::{Disk, Order, order_of, read_words};
 use office_commands::{Ending, report};
 use office_plan::{due_to, plan_to};
 use office_store::Fault;
+use std::alloc::AllocError;
 use std::fs::File;
 use std::process::ExitCode;
 use std::{env, io};
@@ -28,55 +29,38 @@ fn ended(rt: &HostRuntime, ending: Ending) -> u8 {
 /// Prints the due days of a plan file.
 fn plan_in(rt: &HostRuntime, file: &str) -> Ending {
     match File::open(rt, file) {
-        Ok(mut reader) => Ending::of_plan(plan_to(rt.alloc(), &mut reader, &mut io::writer(rt))),
-        Err(error) => Ending::of_plan(Err(Stop::from(error))),
+        Ok(mut reader) => Ending::from(plan_to(rt.alloc(), &mut reader, &mut io::writer(rt))),
+        Err(error) => Ending::from(Stop::from(error)),
     }
 }
 
-/// The bytes of a file, or how the program ends where they are not read.
-fn bytes_of(rt: &HostRuntime, file: &str) -> Result<Vec<u8>, Ending> {
-    let read = match File::open(rt, file) {
-        Ok(mut reader) => read_whole(rt.alloc(), &mut reader),
-        Err(error) => Err(Stop::from(error)),
-    };
-    match read {
-        Ok(bytes) => Ok(bytes),
-        Err(stop) => Err(Ending::of_plan(Err(stop))),
-    }
-}
-
-/// Carries out an order on the office at a place, where the order reads a text.
-fn run_in(rt: &HostRuntime, place: Place<'_>, order: &Order<'_>, text: &[u8]) -> u8 {
-    let mut input = text;
-    run_from(rt, place, order, &mut input)
-}
-
-/// Does the acts of a file, which are read before the office's file is opened.
-fn apply_in(rt: &HostRuntime, place: Place<'_>, acts: &str, order: &Order<'_>) -> u8 {
-    match bytes_of(rt, acts) {
-        Ok(text) => run_in(rt, place, order, text.as_slice()),
-        Err(ending) => ended(rt, ending),
-    }
+/// The bytes of a file.
+fn read_file(rt: &HostRuntime, file: &str) -> Result<Vec<u8>, Stop> {
+    let mut reader = File::open(rt, file)?;
+    read_whole(rt.alloc(), &mut reader)
 }
 
 /// Adds the records of a CSV file, which is opened before the office's file, and read row by row.
 fn import_in(rt: &HostRuntime, place: Place<'_>, csv: &str, order: &Order<'_>) -> u8 {
     match File::open(rt, csv) {
-        Ok(mut reader) => run_from(rt, place, order, &mut reader),
-        Err(error) => ended(rt, Ending::of_plan(Err(Stop::from(error)))),
+        Ok(mut reader) => run_in(rt, place, order, &mut reader),
+        Err(error) => ended(rt, Ending::from(Stop::from(error))),
     }
 }
 
-/// Carries out an order on the office in a file, on that disk.
-fn perform_on(rt: &HostRuntime, disk: Disk, order: &Order<'_>) -> u8 {
+/// Runs a command on the office in a file, on that disk.
+fn run_on_disk(rt: &HostRuntime, disk: Disk, order: &Order<'_>) -> u8 {
     match order {
-        Order::Apply { file, acts } => apply_in(rt, Place { file, disk }, acts, order),
+        Order::Apply { file, acts } => ended(rt, apply_in(rt, Place { file, disk }, acts)),
         Order::Import { file, csv, .. } => import_in(rt, Place { file, disk }, csv, order),
         Order::Init { file }
         | Order::Resume { file }
         | Order::Certificate { file, .. }
         | Order::Export { file, .. }
-        | Order::Overdue { file, .. } => run_in(rt, Place { file, disk }, order, &[]),
+        | Order::Overdue { file, .. } => {
+            let mut nothing: &[u8] = &[];
+            run_in(rt, Place { file, disk }, order, &mut nothing)
+        }
         Order::Serve { file, port, count } => {
             ended(rt, serve_in(rt, Place { file, disk }, *port, *count))
         }
@@ -84,8 +68,8 @@ fn perform_on(rt: &HostRuntime, disk: Disk, order: &Order<'_>) -> u8 {
     }
 }
 
-/// Carries out an order. Where it is on an office, the disk is read before anything is opened.
-fn perform(rt: &HostRuntime, order: &Order<'_>) -> u8 {
+/// Runs a command. Where it is on an office, the disk is read before anything is opened.
+fn run_order(rt: &HostRuntime, order: &Order<'_>) -> u8 {
     match order {
         Order::Due {
             unit,
@@ -94,40 +78,35 @@ fn perform(rt: &HostRuntime, order: &Order<'_>) -> u8 {
             day,
         } => {
             let answer = due_to(unit, count, offset, day, &mut io::writer(rt));
-            ended(rt, Ending::of(answer))
+            ended(rt, Ending::from(answer))
         }
         Order::Plan { file } => ended(rt, plan_in(rt, file)),
         Order::Nothing => ended(rt, Ending::BadWords),
         _ => match disk_of_process(rt) {
-            Ok(disk) => perform_on(rt, disk, order),
+            Ok(disk) => run_on_disk(rt, disk, order),
             Err(ending) => ended(rt, ending),
         },
     }
 }
 
-/// Does what the words ask for.
-fn obey(rt: &HostRuntime, words: Words<'_>) -> u8 {
-    match order_of(words) {
-        Ok(order) => perform(rt, &order),
-        Err(refusal) => ended(rt, Ending::Refused(refusal)),
-    }
-}
-
-/// The words of the command line, as text.
+/// The words of the command line, as text; the first is the name of the program.
 fn words_of_process(rt: &HostRuntime) -> io::Result<Vec<String>> {
     let words: Vec<String> = env::args(rt)?.collect(rt.alloc())?;
     Ok(words)
 }
 
-/// Reads the words and does what they ask for.
-fn run(rt: &HostRuntime, texts: &[String]) -> Result<u8, std::alloc::AllocError> {
+/// Reads the command line and runs its command.
+fn run_command_line(rt: &HostRuntime, texts: &[String]) -> Result<u8, AllocError> {
     let mut words = Vec::new(rt.alloc());
     for text in texts {
         words.push(text.as_str())?;
     }
     match read_words(rt.alloc(), words.as_slice()) {
-        Ok(words) => Ok(obey(rt, words)),
-        Err(error) if error.kind() == ErrorKind::OutOfMemory => Err(std::alloc::AllocError),
+        Ok(words) => match order_of(words) {
+            Ok(order) => Ok(run_order(rt, &order)),
+            Err(refusal) => Ok(ended(rt, Ending::Refused(refusal))),
+        },
+        Err(error) if error.kind() == ErrorKind::OutOfMemory => Err(AllocError),
         Err(error) => {
             let _ = eprint!(rt; "{error}");
             Ok(ended(rt, Ending::BadWords))
@@ -136,13 +115,13 @@ fn run(rt: &HostRuntime, texts: &[String]) -> Result<u8, std::alloc::AllocError>
 }
 
 fn start(rt: &HostRuntime) -> u8 {
-    let wanting = Ending::Fault(Fault::Memory);
+    let out_of_memory = Ending::Fault(Fault::Memory);
     match words_of_process(rt) {
-        Ok(texts) => match run(rt, texts.as_slice()) {
+        Ok(texts) => match run_command_line(rt, texts.as_slice()) {
             Ok(status) => status,
-            Err(_) => ended(rt, wanting),
+            Err(_) => ended(rt, out_of_memory),
         },
-        Err(error) if error.kind() == io::ErrorKind::OutOfMemory => ended(rt, wanting),
+        Err(error) if error.kind() == io::ErrorKind::OutOfMemory => ended(rt, out_of_memory),
         Err(_) => {
             let _ = eprintln!(rt; "office: the words are not UTF-8 text");
             ended(rt, Ending::BadWords)

@@ -1,4 +1,4 @@
--- What the program is to do, with the operands of the words that name an office's file read. Source: own.
+-- What the program is to do, with the operands of the commands on an office's file read. Source: own.
 use Rattle.std.specs.Prelude.{ℕ, ℤ, Option, Some, None, Result, Ok, Err, codes, if◌then◌else◌, option_map}
 use Rattle.std.specs.Str.{bytes_eq}
 use Rattle.clap.specs.Words.{Text}

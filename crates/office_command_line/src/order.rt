@@ -1,4 +1,4 @@
-//! What the program is to do, with the operands of its words read.
+//! What the program is to do, with the operands of its command read.
 ghost use Rattle.std.specs.Prelude.{◌≡◌, Err, IfErr, IfOk, Ok};
 ghost use Rattle.office_command_line.specs.Command.{line_of};
 ghost use Rattle.office_command_line.specs.Orders.{command, command_read};
@@ -9,8 +9,7 @@ use crate::words::Words;
 use office_base::{Refusal, read_thing_number};
 use office_days::{ConfirmDays, Day, read_confirm_days};
 
-/// What the program is to do: its words, with the operands of those that name an office's file
-/// read. `due` and `plan`, which open no office, read theirs where they are done.
+/// What the program is to do: its command, with the operands read if it is on an office's file. `due` and `plan`, which open no office, read theirs where they are done.
 #[derive(Drop)]
 pub enum Order<'a> {
     Due {
@@ -31,7 +30,7 @@ pub enum Order<'a> {
         file: &'a str,
         acts: &'a str,
     },
-    /// Takes the open run of the office in the file up again, to its end.
+    /// Resumes the open run of the office in the file, to its end.
     Resume {
         file: &'a str,
     },
@@ -69,7 +68,7 @@ pub enum Order<'a> {
     Nothing,
 }
 
-/// What the words order, or why an operand is refused; no file is looked at. The number of a run is
+/// What the command line orders, or why an operand is refused; no file is looked at. The number of a run is
 /// one or more ASCII digits, from 1 to 4,294,967,295, leading zeros allowed; so are the port of a
 /// service, from 1 to 65,535, and its count of connections, from 1 to 1,000,000. The day of an
 /// import is written as 2017-06-30; the register of an export is `entries`, or such a day. The day

@@ -9,6 +9,8 @@ use Rattle.office_rules.specs.Answers.{is_refusal}
 use Rattle.office_store.specs.Faults.{fault_number}
 use Rattle.office_store.specs.declared.fault.Fault.TheVariants as fault
 use Rattle.office_desk.specs.Outcomes.{ActsOutcome, all_done, stopped}
+use Rattle.office_json.specs.declared.lists.ListFault.{ListFault}
+use Rattle.office_json.specs.declared.lists.ListFault.TheVariants as list
 use Rattle.office_commands.specs.declared.ending.Ending.{Ending}
 use Rattle.office_commands.specs.declared.ending.Ending.TheVariants.{Done, Refused, SomeRefused, LineRefused, ActRefused, NotJson, CsvHeader, CsvRow, BadWords, File, Socket, SomeFailed, Fault}
 use Rattle.office_base.specs.declared.stop.Stop.{Stop}
@@ -20,12 +22,22 @@ ending_of (Ok None) = Done
 ending_of (Ok (Some refusal)) = Refused refusal
 ending_of (Err failed) = File
 
--- a line that is refused is reported with its number, lack of memory as fault 30
+-- reading or writing that failed is reported as that of a file, lack of memory as fault 30
+abbrev pub ending_of_stop : Stop → Ending
+ending_of_stop stop.Io = File
+ending_of_stop stop.Memory = Fault fault.Memory
+
+-- a line that is refused is reported with its number
 abbrev pub ending_of_plan : Result (Option (ℕ × Refusal)) Stop → Ending
 ending_of_plan (Ok None) = Done
 ending_of_plan (Ok (Some p)) = LineRefused p.0 p.1
-ending_of_plan (Err stop.Io) = File
-ending_of_plan (Err stop.Memory) = Fault fault.Memory
+ending_of_plan (Err stopped_by) = ending_of_stop stopped_by
+
+-- a text that is no list of acts is reported by what is wrong with it, lack of memory as fault 30
+abbrev pub ending_of_list : ListFault → Ending
+ending_of_list list.NotJson = NotJson
+ending_of_list (list.BadAct place refusal) = ActRefused place refusal
+ending_of_list list.Memory = Fault fault.Memory
 
 -- a fault is reported as such, and a refusal among the answers by the exit status alone
 abbrev pub ending_of_acts : ActsOutcome → Ending

@@ -11,12 +11,13 @@ use Rattle.sqlite_wal.specs.Reads.{AreClean}
 use Rattle.sqlite_wal.specs.Recovery.{Image}
 use Rattle.sqlite.specs.Closing.{IsCopied}
 use Rattle.sqlite.specs.Files.{AreFoundIn, HoldsDatabase, IsClosed, IsEmpty, file_state, image_of, over_files}
-use Rattle.sqlite.specs.Held.{Held}
+use Rattle.sqlite.specs.Held.{Held, state}
 use Rattle.sqlite.specs.State.{State as FileState, HasCleanDisk}
 use Rattle.office_sql.specs.declared.editions.Edition.{Edition}
 use Rattle.office_sql.specs.Office.{IsAtRestOver, IsBlank, IsOfficeIn}
 use Rattle.office_store.specs.declared.fault.Fault.TheVariants as fault
 use Rattle.office_command_line.specs.Orders.{Command}
+use Rattle.office_commands.specs.Applying.{TextEnds}
 use Rattle.office_commands.specs.Running.{RunEnds}
 use Rattle.office_commands.specs.Serving.{ServiceEnds}
 use Rattle.office_commands.specs.Tables.{HoldsTables, SparesTables}
@@ -89,6 +90,13 @@ abbrev pub RunsInFiles : {D : Type 0} {g : Ghosts D} → FilesLeft D g → Image
 RunsInFiles left image order text written after ending =
     EndsInFiles left image (λ was last. RunEnds over_files order text was last written after ending) written after
     ending
+
+-- the acts of a text that is in memory, on the office in files that held this
+abbrev pub AppliesInFiles : {D : Type 0} {g : Ghosts D} → FilesLeft D g → Image → List ℕ → Option (List ℕ)
+    → Option (List ℕ) → Ending → Type 0
+AppliesInFiles left image text written after ending =
+    EndsInFiles left image
+    (λ was last. TextEnds text (state over_files was) (state over_files last) written after ending) written after ending
 
 -- a service of the office in files that held this, at a port and for so many connections
 abbrev pub ServesInFiles : {D : Type 0} {g : Ghosts D} → FilesLeft D g → Image → ℕ → ℕ → Option (List ℕ)

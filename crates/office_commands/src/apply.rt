@@ -3,39 +3,17 @@ ghost use Rattle.std.specs.Prelude.{◌≡◌, false};
 ghost use Rattle.sqlite.specs.Held.{state};
 ghost use Rattle.sqlite.specs.State.{HasCleanDisk};
 ghost use Rattle.office_desk.specs.Outcomes.{FromEach, SparesTheRest};
-ghost use Rattle.office_commands.specs.Applying.{Applies, ApplyEnds, Performs, TextEnds};
+ghost use Rattle.office_commands.specs.Applying.{Applies, ApplyEnds, TextEnds};
 
 use crate::ending::Ending;
-use office_base::{Stop, read_whole};
+use office_base::read_whole;
 use office_desk::Desk;
-use office_json::{ListFault, read_acts, write_answers};
-use office_rules::Act;
-use office_store::Fault;
+use office_json::{read_acts, write_answers};
 use sqlite::{Alter, Connection};
 use std::alloc::Global;
 use std::io::{Read, Write};
 
-/// Does acts at a desk that is open, and reports their answers.
-fn perform_at<W: Write, S: Alter>(
-    alloc: Global,
-    desk: &mut Desk<S>,
-    acts: &[Act],
-    out: &mut W,
-) -> Ending
-    requires { desk.old.is_poisoned ≡ false }
-    ensures done { Performs (FromEach S.Store desk.old desk.new) acts.now
-        (state S.Store desk.new.held) (W.contents out.old) (W.contents out.new) result }
-    ensures rest { SparesTheRest S.Store desk.old desk.new }
-{
-    let mut answers = Vec::new(alloc);
-    let done = desk.perform_all(acts, &mut answers);
-    match write_answers(answers.as_slice(), out) {
-        Ok(()) => Ending::of_acts(done, answers.as_slice()),
-        Err(_) => Ending::File,
-    }
-}
-
-/// Does the acts of a text at a desk that is open.
+/// Does the acts of a text at a desk that is open, and reports their answers.
 fn apply_at<W: Write, S: Alter>(
     alloc: Global,
     desk: &mut Desk<S>,
@@ -47,16 +25,20 @@ fn apply_at<W: Write, S: Alter>(
         (state S.Store desk.new.held) (W.contents out.old) (W.contents out.new) result }
     ensures rest { SparesTheRest S.Store desk.old desk.new }
 {
-    match read_acts(alloc, text) {
-        Ok(acts) => perform_at(alloc, desk, acts.as_slice(), out),
-        Err(ListFault::NotJson) => Ending::NotJson,
-        Err(ListFault::BadAct(place, refusal)) => Ending::ActRefused(place, refusal),
-        Err(ListFault::Memory) => Ending::Fault(Fault::Memory),
+    let acts = match read_acts(alloc, text) {
+        Ok(acts) => acts,
+        Err(fault) => return Ending::from(fault),
+    };
+    let mut answers = Vec::new(alloc);
+    let done = desk.perform_all(acts.as_slice(), &mut answers);
+    match write_answers(answers.as_slice(), out) {
+        Ok(()) => Ending::of_acts(done, answers.as_slice()),
+        Err(_) => Ending::File,
     }
 }
 
-/// Does the acts of a text over a connection to the office's file.
-fn apply_text<W: Write, S: Alter>(
+/// Does the acts of a text that is in memory over a connection to the office's file.
+pub(crate) fn apply_text<W: Write, S: Alter>(
     alloc: Global,
     conn: Connection<S>,
     text: &[u8],
@@ -94,7 +76,6 @@ pub fn apply_on<R: Read, W: Write, S: Alter>(
 {
     match read_whole(alloc, input) {
         Ok(text) => apply_text(alloc, conn, text.as_slice(), out),
-        Err(Stop::Io) => (Ending::File, conn),
-        Err(Stop::Memory) => (Ending::Fault(Fault::Memory), conn),
+        Err(stop) => (Ending::from(stop), conn),
     }
 }

@@ -60,10 +60,10 @@ fn carry_out<R: Read, W: Write, S: Alter>(
     }
 }
 
-/// Carries out an order over a connection to the office's file, outside a transaction: what it
-/// reads comes from `input`, what it answers goes to `out`, and the line of its ending to `err`. It
-/// gives the exit status, and the connection back. An order that is not carried out over a
-/// connection is no order here: status 2, with nothing done.
+/// Runs a command over a connection to the office's file, outside a transaction: what it reads comes
+/// from `input`, what it answers goes to `out`, and the line of its ending to `err`. It gives the
+/// exit status, and the connection back. A command that is not run over a connection is none here:
+/// status 2, with nothing done.
 pub fn run_on<R: Read, W: Write, E: Write, S: Alter>(
     alloc: Global,
     conn: Connection<S>,
@@ -73,7 +73,7 @@ pub fn run_on<R: Read, W: Write, E: Write, S: Alter>(
     err: &mut E,
 ) -> (u8, Connection<S>)
     requires { conn.in_transaction ≡ false }
-    // The command is carried out, and the status is that of its ending.
+    // The command is run, and the status is that of its ending.
     ensures runs { Exits result.0 (RunEnds S.Store (command order.now) (R.remaining input.old) conn
         result.1 (W.contents out.old) (W.contents out.new)) }
 

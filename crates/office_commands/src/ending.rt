@@ -2,8 +2,10 @@
 ghost use Rattle.std.specs.Prelude.{◌≡◌};
 
 use office_base::{Io, Refusal, Stop};
+use office_json::ListFault;
 use office_rules::{Answer, has_refusal};
 use office_store::Fault;
+use office_wire::Service;
 use std::fmt;
 
 /// How the program ends. Its text is the line on standard error, with its line feed, or nothing.
@@ -38,33 +40,89 @@ pub enum Ending {
     Fault(Fault),
 }
 
-impl Ending {
-    ghost use Rattle.std.specs.Prelude.{[]};
-    ghost use Rattle.office_desk.specs.Outcomes.{acts_outcome};
-    ghost use Rattle.office_commands.specs.Endings.{ending_of, ending_of_acts, ending_of_plan, ending_of_service, exit_status};
+impl From<Stop> for Ending {
+    ghost use Rattle.std.specs.Prelude.{◌≡◌};
+    ghost use Rattle.office_commands.specs.Endings.{ending_of_stop};
 
-    /// The ending of a command that answers a refusal or none.
-    pub fn of(answer: Result<Option<Refusal>, Io>) -> Ending
-        ensures { result ≡ ending_of answer }
-    {
+    ghost from_gives = { λ stop ending. ending ≡ ending_of_stop stop };
+
+    fn from(stop: Stop) -> Ending {
+        match stop {
+            Stop::Io => Ending::File,
+            Stop::Memory => Ending::Fault(Fault::Memory),
+        }
+    }
+}
+
+impl From<Result<Option<Refusal>, Io>> for Ending {
+    ghost use Rattle.std.specs.Prelude.{◌≡◌};
+    ghost use Rattle.office_commands.specs.Endings.{ending_of};
+
+    ghost from_gives = { λ answer ending. ending ≡ ending_of answer };
+
+    // The ending of `due`, which answers a refusal or none.
+    fn from(answer: Result<Option<Refusal>, Io>) -> Ending {
         match answer {
             Ok(None) => Ending::Done,
             Ok(Some(refusal)) => Ending::Refused(refusal),
             Err(Io) => Ending::File,
         }
     }
+}
 
-    /// The ending of a plan.
-    pub fn of_plan(answer: Result<Option<(u64, Refusal)>, Stop>) -> Ending
-        ensures { result ≡ ending_of_plan answer }
-    {
+impl From<Result<Option<(u64, Refusal)>, Stop>> for Ending {
+    ghost use Rattle.std.specs.Prelude.{◌≡◌};
+    ghost use Rattle.office_commands.specs.Endings.{ending_of_plan};
+
+    ghost from_gives = { λ answer ending. ending ≡ ending_of_plan answer };
+
+    // The ending of `plan`, which answers the refusal of a line or none.
+    fn from(answer: Result<Option<(u64, Refusal)>, Stop>) -> Ending {
         match answer {
             Ok(None) => Ending::Done,
             Ok(Some((line, refusal))) => Ending::LineRefused(line, refusal),
-            Err(Stop::Io) => Ending::File,
-            Err(Stop::Memory) => Ending::Fault(Fault::Memory),
+            Err(stop) => Ending::from(stop),
         }
     }
+}
+
+impl From<ListFault> for Ending {
+    ghost use Rattle.std.specs.Prelude.{◌≡◌};
+    ghost use Rattle.office_commands.specs.Endings.{ending_of_list};
+
+    ghost from_gives = { λ fault ending. ending ≡ ending_of_list fault };
+
+    fn from(fault: ListFault) -> Ending {
+        match fault {
+            ListFault::NotJson => Ending::NotJson,
+            ListFault::BadAct(place, refusal) => Ending::ActRefused(place, refusal),
+            ListFault::Memory => Ending::Fault(Fault::Memory),
+        }
+    }
+}
+
+impl From<Service> for Ending {
+    ghost use Rattle.std.specs.Prelude.{◌≡◌};
+    ghost use Rattle.office_commands.specs.Endings.{ending_of_service};
+
+    ghost from_gives = { λ service ending.
+        ending ≡ ending_of_service service.has_failed service.is_poisoned };
+
+    fn from(service: Service) -> Ending {
+        if service.is_poisoned {
+            Ending::Fault(Fault::Reopen)
+        } else if service.has_failed {
+            Ending::SomeFailed
+        } else {
+            Ending::Done
+        }
+    }
+}
+
+impl Ending {
+    ghost use Rattle.std.specs.Prelude.{[]};
+    ghost use Rattle.office_desk.specs.Outcomes.{acts_outcome};
+    ghost use Rattle.office_commands.specs.Endings.{ending_of_acts, exit_status};
 
     /// The ending of acts that were answered so, all of them or those before a fault.
     pub fn of_acts(done: Result<(), Fault>, answers: &[Answer]) -> Ending
@@ -74,19 +132,6 @@ impl Ending {
             Ok(()) if has_refusal(answers) => Ending::SomeRefused,
             Ok(()) => Ending::Done,
             Err(fault) => Ending::Fault(fault),
-        }
-    }
-
-    /// The ending of a service.
-    pub fn of_service(has_failed: bool, is_poisoned: bool) -> Ending
-        ensures { result ≡ ending_of_service has_failed is_poisoned }
-    {
-        if is_poisoned {
-            Ending::Fault(Fault::Reopen)
-        } else if has_failed {
-            Ending::SomeFailed
-        } else {
-            Ending::Done
         }
     }
 

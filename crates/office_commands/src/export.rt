@@ -4,7 +4,7 @@ ghost use Rattle.sqlite.specs.Held.{state};
 ghost use Rattle.sqlite.specs.State.{HasCleanDisk};
 ghost use Rattle.office_rules.specs.State.{State};
 ghost use Rattle.office_wire.specs.Exporting.{Exports as WritesText};
-ghost use Rattle.office_commands.specs.Exporting.{ExportEnds, Exports, IsRegisterText, ending_of_export};
+ghost use Rattle.office_commands.specs.Exporting.{ExportEnds, Exports, IsRegisterText};
 
 use crate::ending::Ending;
 use office_command_line::Register;
@@ -14,14 +14,18 @@ use sqlite::{Alter, Connection};
 use std::alloc::Global;
 use std::io::Write;
 
-/// The ending of an export.
-fn ending_of_export(done: Result<(), ExportStop>) -> Ending
-    ensures { result ≡ ending_of_export done }
-{
-    match done {
-        Ok(()) => Ending::Done,
-        Err(ExportStop::Fault(fault)) => Ending::Fault(fault),
-        Err(ExportStop::Io) => Ending::File,
+impl From<Result<(), ExportStop>> for Ending {
+    ghost use Rattle.std.specs.Prelude.{◌≡◌};
+    ghost use Rattle.office_commands.specs.Exporting.{ending_of_export};
+
+    ghost from_gives = { λ done ending. ending ≡ ending_of_export done };
+
+    fn from(done: Result<(), ExportStop>) -> Ending {
+        match done {
+            Ok(()) => Ending::Done,
+            Err(ExportStop::Fault(fault)) => Ending::Fault(fault),
+            Err(ExportStop::Io) => Ending::File,
+        }
     }
 }
 
@@ -55,7 +59,7 @@ fn export_at<W: Write, S: Alter>(
         (W.contents out.old) (W.contents out.new) result }
     ensures kept { desk.new ≡ desk.old }
 {
-    ending_of_export(write_register(alloc, desk, register, out))
+    Ending::from(write_register(alloc, desk, register, out))
 }
 
 /// `export FILE entries`, `export FILE DAY` or `overdue FILE DAY COUNT` over a connection to the

@@ -1,11 +1,11 @@
 //! The commands on the office in a file: over a connection to it, and from the opening of the file
 //! to its closing.
 //!
-//! `command` carries out one. `init` makes the office or opens it, `apply` does the acts of a JSON
+//! `command` runs one. `init` makes the office or opens it, `apply` does the acts of a JSON
 //! array, `resume` resumes the open run, `certificate` prints a certificate, `record_import` adds
 //! the records of a CSV file, and `export` writes a register. Each ends with an [`Ending`], what
 //! the program reports to the caller: the exit status, and the line on standard error.
-//! `office_files` opens the office's file, has a command carried out, and closes it; `service` does
+//! `office_files` opens the office's file, runs a command on it, and closes it; `service` does
 //! so for a service. `next_command` has the law from one command over a file to the next.
 #![tactic(auto)]
 
@@ -29,7 +29,7 @@ pub use ending::Ending;
 pub use ending_line::report;
 pub use init::init_on;
 pub use next_command::{law_of_a_killed_command, law_of_each_command, law_of_the_next_command};
-pub use office_files::{FilesLeft, open_and_run};
+pub use office_files::{FilesLeft, open_and_apply, open_and_run};
 pub use office_wire::Routes;
 pub use resume::resume_on;
 pub use service::open_and_serve;

@@ -17,9 +17,9 @@ pub fn law_of_the_next_command<D: Disk + Drop>()
 {}
 
 /// Where the process was killed while it had a connection of which a crash leaves an office
-/// whatever happens, the files hold one of those offices. The connection is given up for this: the
+/// whatever happens, the files hold one of those offices. The connection is consumed for this: the
 /// database promises that a store is numbered only of one that it gives back. A crash has what the
-/// connection left, whether it was given up or not.
+/// connection left, whether it was consumed or not.
 pub fn law_of_a_killed_command<D: Disk + Drop>(conn: Connection<FileStore<D>>) -> FileStore<D>
     ensures crashed { IsClean (view result) → CrashHoldsOffice conn }
 {

@@ -1,12 +1,13 @@
-//! The file of an office is opened, an order is carried out on the office in it, and it is closed.
-ghost use Rattle.std.specs.Prelude.{◌≡◌, IsTrue};
+//! The file of an office is opened, a command is run on the office in it, and it is closed.
+ghost use Rattle.std.specs.Prelude.{◌≡◌, ℕ, IsTrue, List, Some};
 ghost use Rattle.sqlite_trees.specs.Tree.{Trees};
 ghost use Rattle.sqlite_wal.specs.Files.{image_at};
 ghost use Rattle.sqlite.specs.Held.{state};
-ghost use Rattle.office_command_line.specs.Orders.{command};
+ghost use Rattle.office_command_line.specs.Orders.{apply, command};
 ghost use Rattle.office_commands.specs.Calling.{Exits};
-ghost use Rattle.office_commands.specs.Files.{IsLeftOf, RunsInFiles};
+ghost use Rattle.office_commands.specs.Files.{AppliesInFiles, IsLeftOf, RunsInFiles};
 
+use crate::apply::apply_text;
 use crate::command::run_on;
 use crate::ending::Ending;
 use crate::ending_line::report;
@@ -63,8 +64,8 @@ pub(crate) fn close<D: Disk + Drop>(conn: Connection<FileStore<D>>) -> FilesLeft
     }
 }
 
-/// Opens the office's file, which is made where there is none, carries out an order on the office
-/// in it, as [`run_on`] does, and closes the file. It gives the exit status, and what is left of
+/// Opens the office's file, which is made where there is none, runs a command on the office in it,
+/// as [`run_on`] does, and closes the file. It gives the exit status, and what is left of
 /// the file, which is shut when that is dropped. A file that is not opened, as one that is no
 /// database's, is fault 31, and nothing goes to `out`; what is left of it holds what it held
 /// (`IsUnopenedLeft`). Of a file that the system refused to open no clause speaks.
@@ -96,5 +97,34 @@ pub fn open_and_run<S: Start, R: Read, W: Write, E: Write>(
             let _ = report(ending, err);
             (ending.status(), FilesLeft::Unopened(left))
         }
+    }
+}
+
+/// Opens the office's file as [`open_and_run`] does, and does the acts of a text that is in memory
+/// already, as `apply` does those of its reader. So the text is in memory once. It gives how that
+/// ends, which is not reported yet, and what is left of the file.
+pub fn open_and_apply<S: Start, W: Write>(
+    rt: &HostRuntime,
+    file: &str,
+    start: S,
+    text: &[u8],
+    out: &mut W,
+) -> (Ending, FilesLeft<FileFrom<S>>)
+    // The acts of the text are done in order and their answers written; or none is done.
+    ensures applies { AppliesInFiles result.1 (image_at S.Start) text.now (W.contents out.old)
+        (W.contents out.new) result.0 }
+
+    // So does the command `apply` whose reader has this text.
+    ensures runs { (acts : List ℕ) → RunsInFiles result.1 (image_at S.Start) (apply file.now acts)
+        (Some text.now) (W.contents out.old) (W.contents out.new) result.0 }
+{
+    match Connection::open_from(rt, file, false, start) {
+        Ok(conn) => {
+            law_of_the_last_commit(&conn);
+            let (ending, conn) = apply_text(rt.alloc(), conn, text, out);
+            law_of_the_last_commit(&conn);
+            (ending, close(conn))
+        }
+        Err((_, left)) => (Ending::Fault(Fault::Store), FilesLeft::Unopened(left)),
     }
 }

@@ -4,7 +4,7 @@ ghost use Rattle.csv.specs.Reading.{strip_bom};
 ghost use Rattle.sqlite.specs.Held.{state};
 ghost use Rattle.sqlite.specs.State.{HasCleanDisk};
 ghost use Rattle.office_desk.specs.Outcomes.{FromEach};
-ghost use Rattle.office_commands.specs.Importing.{ImportEnds, ImportsAt, ending_of_import};
+ghost use Rattle.office_commands.specs.Importing.{ImportEnds, ImportsAt};
 
 use crate::ending::Ending;
 use office_days::Day;
@@ -14,17 +14,22 @@ use sqlite::{Alter, Connection};
 use std::alloc::Global;
 use std::io::{Read, Write};
 
-/// The ending of an import, of whose rows so many were refused.
-fn ending_of_import(done: Result<u64, ImportStop>) -> Ending
-    ensures { result ≡ ending_of_import done }
-{
-    match done {
-        Ok(0) => Ending::Done,
-        Ok(_) => Ending::SomeRefused,
-        Err(ImportStop::Header) => Ending::CsvHeader,
-        Err(ImportStop::Row(number)) => Ending::CsvRow(number),
-        Err(ImportStop::Fault(fault)) => Ending::Fault(fault),
-        Err(ImportStop::Io) => Ending::File,
+impl From<Result<u64, ImportStop>> for Ending {
+    ghost use Rattle.std.specs.Prelude.{◌≡◌};
+    ghost use Rattle.office_commands.specs.Importing.{ending_of_import};
+
+    ghost from_gives = { λ done ending. ending ≡ ending_of_import done };
+
+    // The ending of an import, of whose rows so many were refused.
+    fn from(done: Result<u64, ImportStop>) -> Ending {
+        match done {
+            Ok(0) => Ending::Done,
+            Ok(_) => Ending::SomeRefused,
+            Err(ImportStop::Header) => Ending::CsvHeader,
+            Err(ImportStop::Row(number)) => Ending::CsvRow(number),
+            Err(ImportStop::Fault(fault)) => Ending::Fault(fault),
+            Err(ImportStop::Io) => Ending::File,
+        }
     }
 }
 
@@ -42,7 +47,7 @@ fn import_at<R: Read, W: Write, S: Alter>(
     ensures clean { HasCleanDisk (state S.Store desk.new.held)
         → HasCleanDisk (state S.Store desk.old.held) }
 {
-    ending_of_import(import_records(alloc, desk, day, input, out))
+    Ending::from(import_records(alloc, desk, day, input, out))
 }
 
 /// `import FILE DAY CSV` over a connection to the file; `input` is the text of CSV.

@@ -33,10 +33,7 @@ where
         (W.contents out.new) result }
 {
     match report_listening(port, out) {
-        Ok(()) => {
-            let service = serve_each(rt.alloc(), routes, listener, rt, count, desk, err);
-            Ending::of_service(service.has_failed, service.is_poisoned)
-        }
+        Ok(()) => { Ending::from(serve_each(rt.alloc(), routes, listener, rt, count, desk, err)) }
         Err(_) => Ending::File,
     }
 }
