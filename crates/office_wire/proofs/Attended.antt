@@ -161,8 +161,7 @@ module _ {S : Type 0} (g : Ghosts S) where
   session_more : (s : State) (came : List (List ℕ)) (sent : List Sent) (bytes : List ℕ) (it : Sent) (old new : DeskState S) → IsAfterSession s came sent old → IsExchanged g bytes it old new → IsOkAnd it.status (λ code. code ≢ 503) → HasCleanDisk (state g new.held)
       → IsAfterSession s (came ++ bytes ∷ []) (sent ++ it ∷ []) new
   session_more s came sent bytes it old new (t, session, at) exchanged well clean =
-      let one = exchanged_well t bytes it old new exchanged well clean at in
-      (
+      let one = exchanged_well t bytes it old new exchanged well clean at in (
         after_request t one.0,
         subst (λ (x : List (List ℕ)). IsSession s (came ++ bytes ∷ []) x (after_request t one.0)) (sym (bytes_more sent it)) (went_on s t came (bytes_of sent) one.0 bytes it.bytes session one.1 one.2),
         one.3,

@@ -124,7 +124,7 @@ module _ {R W S : Type 0} (g : Ghosts S) (all : R → Option (List ℕ)) (reader
         broken = untouched_at status _ _ (λ err. elim err [
           | inl same ↦ inl (same.0, (let none = same.1 in cc))
           | inr breaks ↦ inr (called g old new (λ t. Breaks g t bytes (left ≡ reader) (Some []) (Some out) new) (λ t. Breaks g t bytes (Unit {0}) (Some []) (Some out) new) breaks
-          (λ t is. breaks_told g t bytes (left ≡ reader) new (Some []) (Some out) is))
+              (λ t is. breaks_told g t bytes (left ≡ reader) new (Some []) (Some out) is))
         ]) its.err;
       }
 

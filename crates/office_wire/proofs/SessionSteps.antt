@@ -67,8 +67,7 @@ same_sent s (q ∷ rest) (out ∷ more) (other_out ∷ others) one other =
 
 pub same_session : (s u v : State) (came sent other_sent : List (List ℕ)) → IsSession s came sent u → IsSession s came other_sent v → (sent ≡ other_sent) × (u ≡ v)
 same_session s u v came sent other_sent one other =
-    let asked = same_requests came one.requests other.requests one.are other.are in
-    (
+    let asked = same_requests came one.requests other.requests one.are other.are in (
       same_sent s other.requests sent other_sent (subst (λ (x : List Request). AreAnsweredBy s x sent) asked one.answered) other.answered,
       one.leads ∙ ap (λ (x : List Request). after_requests s x) asked ∙ sym other.leads,
     )

@@ -46,7 +46,13 @@ fn serve_next<C: ConnectionSource, S: Alter>(
         (λ it. IsNextServed S.Store result it (C.told source.new) desk.old desk.new) }
 {
     let (mut reader, mut writer) = source.accept()?;
-    let served = serve_with(serving.alloc, serving.routes, desk, &mut reader, &mut writer);
+    let served = serve_with(
+        serving.alloc,
+        serving.routes,
+        desk,
+        &mut reader,
+        &mut writer,
+    );
     source.close(reader, writer, served)
 }
 
@@ -119,7 +125,12 @@ where
     L::Stream: Read + Write + OpenStream,
     ensures { ServesAll S.Store count result desk.old desk.new }
 {
-    let mut sockets = Sockets { alloc, listener, clock, err };
+    let mut sockets = Sockets {
+        alloc,
+        listener,
+        clock,
+        err,
+    };
     serve_session(Serving { alloc, routes }, &mut sockets, count, desk)
 }
 
