@@ -10,3 +10,6 @@ once_closed held closed same P it = subst P (sym same) it
 
 pub clean_closed : {S : Type 0} (g : Ghosts S) (old held closed : Held S) → closed ≡ held → (HasCleanDisk (state g held) → HasCleanDisk (state g old)) → HasCleanDisk (state g closed) → HasCleanDisk (state g old)
 clean_closed g old held closed same clean = subst (λ (h : Held _). HasCleanDisk (state g h) → HasCleanDisk (state g old)) (sym same) clean
+
+pub shield_closed : {S : Type 0} (g : Ghosts S) (old held closed : Held S) → closed ≡ held → ((state g old).IsShielded → (state g held).IsShielded) → (state g old).IsShielded → (state g closed).IsShielded
+shield_closed g old held closed same shield = subst (λ (h : Held _). (state g old).IsShielded → (state g h).IsShielded) (sym same) shield

@@ -4,6 +4,7 @@ pub mod Certificates
 pub mod Closings
 pub mod Desks
 pub mod Exports
+pub mod FoundDamage
 pub mod Imports
 pub mod KeptRest
 pub mod LeftTables

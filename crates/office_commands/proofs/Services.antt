@@ -1,5 +1,5 @@
--- The desk that a service has, and that a disk which is clean after a service was so before.
-use Rattle.std.proofs.Common.{inl, inr, ℕ, zero, suc, Bool, false, List, Option, Result, subst}
+-- The desk that a service has, and that a disk which is clean after a service was so before, and reads are tested on.
+use Rattle.std.proofs.Common.{inl, inr, ℕ, zero, suc, Bool, false, List, Option, Result, subst, sym}
 use Rattle.sqlite.specs.Held.{Held, state}
 use Rattle.sqlite.specs.State.{HasCleanDisk}
 use Rattle.sqlite_trees.specs.declared.store.Store.{Ghosts}
@@ -28,3 +28,17 @@ clean_turns g (suc n) failed ended old new (m, earlier, status, turns, turn, end
 pub clean_served : {S : Type 0} (g : Ghosts S) (port count : ℕ) (old new : DeskState S) (written after : Option (List ℕ)) (e : Ending) → ServesAt g port count old new written after e → HasCleanDisk (state g new.held) → HasCleanDisk (state g old.held)
 clean_served g port count old new written after e (inl it) clean = subst (λ (d : DeskState _). HasCleanDisk (state g d.held)) it.1 clean
 clean_served g port count old new written after e (inr (n, failed, ended, reported, turns, few, all, is)) clean = clean_turns g n failed ended old new turns clean
+
+pub shield_turn : {S : Type 0} (g : Ghosts S) (status : Result ℕ Io) (old new : DeskState S) → Turn g status old new → (state g old.held).IsShielded → (state g new.held).IsShielded
+shield_turn g status old new (inl failed) shielded = subst (λ (d : DeskState _). (state g d.held).IsShielded) (sym failed.1) shielded
+shield_turn g status old new (inr visited) shielded = visited.call.shield shielded
+
+pub shield_turns : {S : Type 0} (g : Ghosts S) (n : ℕ) (failed ended : Bool) (old new : DeskState S) → Turns g n failed ended old new → (state g old.held).IsShielded → (state g new.held).IsShielded
+unfolding Turns
+shield_turns g zero failed ended old new turns shielded = subst (λ (d : DeskState _). (state g d.held).IsShielded) (sym turns.2) shielded
+shield_turns g (suc n) failed ended old new (m, earlier, status, turns, turn, ends, is) shielded =
+    shield_turn g status m new turn (shield_turns g n earlier false old m turns shielded)
+
+pub shield_served : {S : Type 0} (g : Ghosts S) (port count : ℕ) (old new : DeskState S) (written after : Option (List ℕ)) (e : Ending) → ServesAt g port count old new written after e → (state g old.held).IsShielded → (state g new.held).IsShielded
+shield_served g port count old new written after e (inl it) shielded = subst (λ (d : DeskState _). (state g d.held).IsShielded) (sym it.1) shielded
+shield_served g port count old new written after e (inr (n, failed, ended, reported, turns, few, all, is)) shielded = shield_turns g n failed ended old new turns shielded

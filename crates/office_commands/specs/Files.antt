@@ -2,7 +2,7 @@
 use Rattle.std.specs.Prelude.{◌≡◌, ◌⊎◌, ℕ, IfSome, IsTrue, List, Option}
 use Rattle.sqlite_disk.specs.declared.Disk.{Ghosts}
 use Rattle.sqlite_disk.specs.declared.Files.{Files}
-use Rattle.sqlite_store.specs.FileStore.{view}
+use Rattle.sqlite_store.specs.FileStore.{files as two_files, is_shielded, view}
 use Rattle.sqlite_store.specs.declared.store.FileStore.{FileStore}
 use Rattle.sqlite_trees.specs.Tree.{Trees}
 use Rattle.sqlite_trees.specs.View.{IsClean}
@@ -43,14 +43,24 @@ pub record IsOpenedFrom {D : Type 0} {g : Ghosts D} (image : Image) (was last : 
       → IsAtRestOver ed (file_state was) × ((file_state was).now.trees ≡ trees)
   pub blank : HasCleanDisk (file_state last) → IsEmpty (file_state was).now.trees → IsBlank (file_state was)
 
+-- no wrong answer of the disk was taken as true so far but by a collision of digests: the store of what is left tests
+-- each read
+abbrev pub IsLeftShielded : {D : Type 0} {g : Ghosts D} → FilesLeft D g → Type 0
+IsLeftShielded (files.Unopened left) = Unit {0}
+IsLeftShielded {D} {g} (files.Closed it) =
+    (store : FileStore D g) × (two_files store ≡ (it.log, it.db)) × is_shielded store
+IsLeftShielded (files.Unclosed store) = is_shielded store
+
 -- files that held this were opened, and so it ended over the connection, which is this one then; where it is open, a
--- crash may leave its last commit
-pub record EndsOver {D : Type 0} {g : Ghosts D} (image : Image)
+-- crash may leave its last commit; and where no wrong answer was taken as true as they were opened, each later read was
+-- tested
+pub record EndsOver {D : Type 0} {g : Ghosts D} (left : FilesLeft D g) (image : Image)
     (Ends : Held (FileStore D g) → Held (FileStore D g) → Type 0) (last : Held (FileStore D g)) : Type 0 where
   pub was : Held (FileStore D g)
   pub opened : IsOpenedFrom image was last
   pub ends : Ends was last
   pub stays : IsTrue (file_state last).is_open → (file_state last).may_leave (file_state last).committed.trees
+  pub shield : HasCleanDisk (file_state was) → IsLeftShielded left
 
 -- what a closing copies: the last commit, into the database file alone; and the two files hold it, as they read now and
 -- after any crash
@@ -82,7 +92,7 @@ abbrev pub EndsInFiles : {D : Type 0} {g : Ghosts D} → FilesLeft D g → Image
     → (Held (FileStore D g) → Held (FileStore D g) → Type 0) → Option (List ℕ) → Option (List ℕ) → Ending → Type 0
 EndsInFiles {D} {g} left image Ends written after ending =
     ((ending ≡ how.Fault fault.Store) × IsUnopenedLeft image left × (after ≡ written))
-    ⊎ ((last : Held (FileStore D g)) × EndsOver image Ends last × IsLeftOf last left)
+    ⊎ ((last : Held (FileStore D g)) × EndsOver left image Ends last × IsLeftOf last left)
 
 -- an order on the office in files that held this, where the reader reports the text that it reads
 abbrev pub RunsInFiles : {D : Type 0} {g : Ghosts D} → FilesLeft D g → Image → Command → Option (List ℕ)

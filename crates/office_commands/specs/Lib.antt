@@ -1,6 +1,7 @@
 pub mod Applying
 pub mod Calling
 pub mod Certifying
+pub mod Damage
 pub mod Endings
 pub mod Exporting
 pub mod Files

@@ -48,6 +48,7 @@ pub(crate) fn apply_text<W: Write, S: Alter>(
     ensures ends { TextEnds text.now (state S.Store conn) (state S.Store result.1)
         (W.contents out.old) (W.contents out.new) result.0 }
     ensures clean { HasCleanDisk (state S.Store result.1) → HasCleanDisk (state S.Store conn) }
+    ensures shield { (state S.Store conn).IsShielded → (state S.Store result.1).IsShielded }
 {
     match Desk::open(alloc, conn) {
         Ok(mut desk) => {
@@ -73,6 +74,9 @@ pub fn apply_on<R: Read, W: Write, S: Alter>(
 
     // A disk that is clean afterwards was clean before.
     ensures clean { HasCleanDisk (state S.Store result.1) → HasCleanDisk (state S.Store conn) }
+
+    // Later reads are tested against digests, if they were before.
+    ensures shield { (state S.Store conn).IsShielded → (state S.Store result.1).IsShielded }
 {
     match read_whole(alloc, input) {
         Ok(text) => apply_text(alloc, conn, text.as_slice(), out),

@@ -43,6 +43,7 @@ fn carry_out<R: Read, W: Write, S: Alter>(
     ensures ends { RunEnds S.Store (command order.now) (R.remaining input.old) conn result.1
         (W.contents out.old) (W.contents out.new) result.0 }
     ensures clean { HasCleanDisk (state S.Store result.1) → HasCleanDisk (state S.Store conn) }
+    ensures shield { (state S.Store conn).IsShielded → (state S.Store result.1).IsShielded }
 {
     match order {
         Order::Init { .. } => init_on(alloc, conn, out),
@@ -79,6 +80,9 @@ pub fn run_on<R: Read, W: Write, E: Write, S: Alter>(
 
     // A disk that is clean afterwards was clean before.
     ensures clean { HasCleanDisk (state S.Store result.1) → HasCleanDisk (state S.Store conn) }
+
+    // Later reads are tested against digests, if they were before.
+    ensures shield { (state S.Store conn).IsShielded → (state S.Store result.1).IsShielded }
 {
     let (ending, conn) = carry_out(alloc, conn, order, input, out);
     let _ = report(ending, err);

@@ -40,6 +40,9 @@ pub fn init_on<W: Write, S: Alter>(
 
     // A disk that is clean afterwards was clean before.
     ensures clean { HasCleanDisk (state S.Store result.1) → HasCleanDisk (state S.Store conn) }
+
+    // Later reads are tested against digests, if they were before.
+    ensures shield { (state S.Store conn).IsShielded → (state S.Store result.1).IsShielded }
 {
     match Desk::open(alloc, conn) {
         Ok(desk) => (report_version(out), desk.close()),

@@ -12,6 +12,7 @@
 mod apply;
 mod certificate;
 mod command;
+mod damage;
 mod ending;
 mod ending_line;
 mod export;
@@ -25,6 +26,7 @@ mod service;
 pub use apply::apply_on;
 pub use certificate::certificate_on;
 pub use command::{report_listening, run_on};
+pub use damage::law_of_found_damage;
 pub use ending::Ending;
 pub use ending_line::report;
 pub use init::init_on;

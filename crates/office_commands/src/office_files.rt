@@ -2,10 +2,11 @@
 ghost use Rattle.std.specs.Prelude.{◌≡◌, ℕ, IsTrue, List, Some};
 ghost use Rattle.sqlite_trees.specs.Tree.{Trees};
 ghost use Rattle.sqlite_wal.specs.Files.{image_at};
+ghost use Rattle.sqlite.specs.Files.{file_state};
 ghost use Rattle.sqlite.specs.Held.{state};
 ghost use Rattle.office_command_line.specs.Orders.{apply, command};
 ghost use Rattle.office_commands.specs.Calling.{Exits};
-ghost use Rattle.office_commands.specs.Files.{AppliesInFiles, IsLeftOf, RunsInFiles};
+ghost use Rattle.office_commands.specs.Files.{AppliesInFiles, IsLeftOf, IsLeftShielded, RunsInFiles};
 
 use crate::apply::apply_text;
 use crate::command::run_on;
@@ -53,7 +54,8 @@ pub(crate) fn law_of_the_last_commit<S: Alter>(conn: &Connection<S>)
 /// Closes a connection, so that the database file alone has every commit: the calls of the kit's
 /// `close_files`, one by one, so that what each says of the store is known here.
 pub(crate) fn close<D: Disk + Drop>(conn: Connection<FileStore<D>>) -> FilesLeft<D>
-    ensures { IsLeftOf conn result }
+    ensures left { IsLeftOf conn result }
+    ensures shield { (file_state conn).IsShielded → IsLeftShielded result }
 {
     law_of_the_last_commit(&conn);
     let mut store = conn.into_store();

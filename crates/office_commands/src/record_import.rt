@@ -46,6 +46,8 @@ fn import_at<R: Read, W: Write, S: Alter>(
         (W.contents out.old) (W.contents out.new) result }
     ensures clean { HasCleanDisk (state S.Store desk.new.held)
         → HasCleanDisk (state S.Store desk.old.held) }
+    ensures shield { (state S.Store desk.old.held).IsShielded
+        → (state S.Store desk.new.held).IsShielded }
 {
     Ending::from(import_records(alloc, desk, day, input, out))
 }
@@ -65,6 +67,9 @@ pub fn import_on<R: Read, W: Write, S: Alter>(
 
     // A disk that is clean afterwards was clean before.
     ensures clean { HasCleanDisk (state S.Store result.1) → HasCleanDisk (state S.Store conn) }
+
+    // Later reads are tested against digests, if they were before.
+    ensures shield { (state S.Store conn).IsShielded → (state S.Store result.1).IsShielded }
 {
     match Desk::open(alloc, conn) {
         Ok(mut desk) => {

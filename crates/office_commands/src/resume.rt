@@ -87,6 +87,9 @@ pub fn resume_on<W: Write, S: Alter>(
 
     // A disk that is clean afterwards was clean before.
     ensures clean { HasCleanDisk (state S.Store result.1) → HasCleanDisk (state S.Store conn) }
+
+    // Later reads are tested against digests, if they were before.
+    ensures shield { (state S.Store conn).IsShielded → (state S.Store result.1).IsShielded }
 {
     match Desk::open(alloc, conn) {
         Ok(mut desk) => {

@@ -55,6 +55,7 @@ where
     ensures ends { ServiceEnds S.Store port count conn result.1 (W.contents out.old)
         (W.contents out.new) result.0 }
     ensures clean { HasCleanDisk (state S.Store result.1) → HasCleanDisk (state S.Store conn) }
+    ensures shield { (state S.Store conn).IsShielded → (state S.Store result.1).IsShielded }
 {
     match Desk::open(rt.alloc(), conn) {
         Ok(mut desk) => {

@@ -4,7 +4,7 @@ use Rattle.office_rules.specs.State.{State}
 use Rattle.office_desk.specs.Desk.{DeskState}
 use Rattle.office_commands.specs.Exporting.{ExportEnds}
 use Rattle.office_commands.specs.Opening.{FromOpened}
-use Rattle.office_commands.proofs.Callings.{clean_closed, once_closed}
+use Rattle.office_commands.proofs.Callings.{clean_closed, once_closed, shield_closed}
 use Rattle.office_commands.proofs.Desks.{of_office, opened}
 use Rattle.office_commands.proofs.Exports.{exports_of}
 use Rattle.office_commands.proofs.Unopened.{unopened}
@@ -30,3 +30,9 @@ returns-in-Err-clause-ends g c = inl (c.in-Err.fault, refl, unopened g.S.Store c
 
 pub returns-in-Err-clause-clean : goal.returns-in-Err-clause-clean
 returns-in-Err-clause-clean g c = c.in-Err.ensures.err.clean
+
+pub returns-in-Ok-clause-shield : goal.returns-in-Ok-clause-shield
+returns-in-Ok-clause-shield g c = shield_closed g.S.Store c.args.conn c.in-Ok.desk.held c.close.result (c.close.ensures.same ∙ ap (λ (d : DeskState _). d.held) c.export_at-ending.ensures.kept) c.in-Ok.ensures.ok.shield
+
+pub returns-in-Err-clause-shield : goal.returns-in-Err-clause-shield
+returns-in-Err-clause-shield g c = c.in-Err.ensures.err.shield

@@ -14,8 +14,8 @@ use Rattle.sqlite.proofs.Theorems.{copied}
 use Rattle.office_commands.proofs.Closings.{holds_last}
 use Rattle.office_commands.proofs.office_files.close.Goals as goal
 
-pub returns-in-Ok : goal.returns-in-Ok
-returns-in-Ok g c honest =
+pub returns-in-Ok-clause-left : goal.returns-in-Ok-clause-left
+returns-in-Ok-clause-left g c honest =
     let back = c.into_store-store.result in
     let before = c.rollback.new.self in
     let last = c.checkpoint.new.self in
@@ -52,8 +52,18 @@ returns-in-Ok g c honest =
       left = holds;
     }
 
-pub returns-in-Err : goal.returns-in-Err
-returns-in-Err g c =
+pub returns-in-Ok-clause-shield : goal.returns-in-Ok-clause-shield
+returns-in-Ok-clause-shield g c shielded =
+    let closed = still_quiet (still_quiet c.into_store-store.ensures.quiet c.rollback.ensures.quiet) c.checkpoint.ensures.quiet in
+    (c.checkpoint.new.self, sym c.close.ensures, closed.shield shielded)
+
+pub returns-in-Err-clause-shield : goal.returns-in-Err-clause-shield
+returns-in-Err-clause-shield g c =
+    let closed = still_quiet (still_quiet c.into_store-store.ensures.quiet c.rollback.ensures.quiet) c.checkpoint.ensures.quiet in
+    closed.shield
+
+pub returns-in-Err-clause-left : goal.returns-in-Err-clause-left
+returns-in-Err-clause-left g c =
     let before = c.rollback.new.self in
     let last = c.checkpoint.new.self in
     let first = still_quiet c.into_store-store.ensures.quiet c.rollback.ensures.quiet in

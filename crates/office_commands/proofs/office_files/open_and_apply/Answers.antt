@@ -11,7 +11,7 @@ returns-in-Ok-clause-applies g c =
     let applied = c.apply_text-ending.ensures in
     let law = c.law_of_the_last_commit.ensures in
     let opened = opened_from (image_at g.S.Start) was last applied.clean c.in-Ok.ensures.opened c.in-Ok.ensures.found law.only law.stays in
-    inr (last, record { was = was; opened = opened; ends = applied.ends; stays = c.law_of_the_last_commit-in-Ok.ensures.stays }, c.close.ensures)
+    inr (last, record { was = was; opened = opened; ends = applied.ends; stays = c.law_of_the_last_commit-in-Ok.ensures.stays; shield = λ clean. c.close.ensures.shield (applied.shield (c.in-Ok.ensures.guarded clean)) }, c.close.ensures.left)
 
 pub returns-in-Ok-clause-runs : goal.returns-in-Ok-clause-runs
 returns-in-Ok-clause-runs g c = λ acts.
@@ -20,7 +20,7 @@ returns-in-Ok-clause-runs g c = λ acts.
     let applied = c.apply_text-ending.ensures in
     let law = c.law_of_the_last_commit.ensures in
     let opened = opened_from (image_at g.S.Start) was last applied.clean c.in-Ok.ensures.opened c.in-Ok.ensures.found law.only law.stays in
-    inr (last, record { was = was; opened = opened; ends = inr applied.ends; stays = c.law_of_the_last_commit-in-Ok.ensures.stays }, c.close.ensures)
+    inr (last, record { was = was; opened = opened; ends = inr applied.ends; stays = c.law_of_the_last_commit-in-Ok.ensures.stays; shield = λ clean. c.close.ensures.shield (applied.shield (c.in-Ok.ensures.guarded clean)) }, c.close.ensures.left)
 
 pub returns-in-Err-clause-applies : goal.returns-in-Err-clause-applies
 returns-in-Err-clause-applies g c =

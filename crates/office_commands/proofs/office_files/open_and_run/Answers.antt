@@ -13,7 +13,7 @@ returns-in-Ok g c =
     let ran = c.run_on-status.ensures in
     let law = c.law_of_the_last_commit.ensures in
     let opened = opened_from (image_at g.S.Start) was last ran.clean c.in-Ok.ensures.opened c.in-Ok.ensures.found law.only law.stays in
-    record { runs = record { ending = ran.runs.ending; is = ran.runs.is; ends = inr (last, record { was = was; opened = opened; ends = ran.runs.ends; stays = c.law_of_the_last_commit-in-Ok.ensures.stays }, c.close.ensures) } }
+    record { runs = record { ending = ran.runs.ending; is = ran.runs.is; ends = inr (last, record { was = was; opened = opened; ends = ran.runs.ends; stays = c.law_of_the_last_commit-in-Ok.ensures.stays; shield = λ clean. c.close.ensures.shield (ran.shield (c.in-Ok.ensures.guarded clean)) }, c.close.ensures.left) } }
 
 pub returns-in-Err : goal.returns-in-Err
 returns-in-Err g c =

@@ -6,3 +6,6 @@ returns-clause-done g c = imported g.S.Store c.args.day _ _ _ _ _ c.import_recor
 
 pub returns-clause-clean : goal.returns-clause-clean
 returns-clause-clean g c = c.import_records.ensures.call.clean
+
+pub returns-clause-shield : goal.returns-clause-shield
+returns-clause-shield g c = c.import_records.ensures.call.shield

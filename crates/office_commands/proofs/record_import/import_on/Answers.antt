@@ -5,7 +5,7 @@ use Rattle.sqlite.specs.Held.{state}
 use Rattle.office_desk.specs.Outcomes.{FromEach}
 use Rattle.office_commands.specs.Importing.{ImportEnds}
 use Rattle.office_commands.specs.Opening.{FromOpened}
-use Rattle.office_commands.proofs.Callings.{clean_closed, once_closed}
+use Rattle.office_commands.proofs.Callings.{clean_closed, once_closed, shield_closed}
 use Rattle.office_commands.proofs.Desks.{of_desk}
 use Rattle.office_commands.proofs.Imports.{imports_of}
 use Rattle.office_commands.proofs.Unopened.{unopened}
@@ -28,3 +28,9 @@ returns-in-Err-clause-ends g c = inl (c.in-Err.fault, refl, unopened g.S.Store c
 
 pub returns-in-Err-clause-clean : goal.returns-in-Err-clause-clean
 returns-in-Err-clause-clean g c = c.in-Err.ensures.err.clean
+
+pub returns-in-Ok-clause-shield : goal.returns-in-Ok-clause-shield
+returns-in-Ok-clause-shield g c = shield_closed g.S.Store c.args.conn c.import_at-ending.new.desk.held c.close.result c.close.ensures.same (λ shielded. c.import_at-ending.ensures.shield (c.in-Ok.ensures.ok.shield shielded))
+
+pub returns-in-Err-clause-shield : goal.returns-in-Err-clause-shield
+returns-in-Err-clause-shield g c = c.in-Err.ensures.err.shield

@@ -11,7 +11,7 @@ returns-in-Ok g c =
     let served = c.serve_on-ending.ensures in
     let law = c.law_of_the_last_commit.ensures in
     let opened = opened_from (image_at g.S.Start) was last served.clean c.in-Ok.ensures.opened c.in-Ok.ensures.found law.only law.stays in
-    inr (last, record { was = was; opened = opened; ends = served.ends; stays = c.law_of_the_last_commit-in-Ok.ensures.stays }, c.close.ensures)
+    inr (last, record { was = was; opened = opened; ends = served.ends; stays = c.law_of_the_last_commit-in-Ok.ensures.stays; shield = λ clean. c.close.ensures.shield (served.shield (c.in-Ok.ensures.guarded clean)) }, c.close.ensures.left)
 
 pub returns-in-Err : goal.returns-in-Err
 returns-in-Err g c =

@@ -1,7 +1,7 @@
 use Rattle.std.proofs.Common.{inl, inr, refl}
 use Rattle.office_commands.specs.Serving.{ServiceEnds}
-use Rattle.office_commands.proofs.Callings.{clean_closed, once_closed}
-use Rattle.office_commands.proofs.Services.{clean_served, desk_of}
+use Rattle.office_commands.proofs.Callings.{clean_closed, once_closed, shield_closed}
+use Rattle.office_commands.proofs.Services.{clean_served, desk_of, shield_served}
 use Rattle.office_commands.proofs.Unopened.{unopened}
 use Rattle.office_commands.proofs.service.serve_on.Goals as goal
 
@@ -21,3 +21,11 @@ returns-in-Err-clause-ends g c = inl (c.in-Err.fault, refl, unopened g.S.Store c
 
 pub returns-in-Err-clause-clean : goal.returns-in-Err-clause-clean
 returns-in-Err-clause-clean g c = c.in-Err.ensures.err.clean
+
+pub returns-in-Ok-clause-shield : goal.returns-in-Ok-clause-shield
+returns-in-Ok-clause-shield g c =
+    shield_closed g.S.Store c.args.conn c.serve_at-ending.new.desk.held c.close.result c.close.ensures.same
+    (λ shielded. shield_served g.S.Store c.args.port c.args.count c.in-Ok.desk c.serve_at-ending.new.desk _ _ _ c.serve_at-ending.ensures (c.in-Ok.ensures.ok.shield shielded))
+
+pub returns-in-Err-clause-shield : goal.returns-in-Err-clause-shield
+returns-in-Err-clause-shield g c = c.in-Err.ensures.err.shield

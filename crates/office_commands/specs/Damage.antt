@@ -1,0 +1,69 @@
+-- Damage is found: after its opening a run takes no wrong answer of the disk as true, or a digest collided. Source: own.
+use Rattle.std.specs.Prelude.{◌≡◌, ◌⊎◌, ℕ, List, Option}
+use Rattle.sqlite_disk.specs.declared.Disk.{Ghosts}
+use Rattle.sqlite_disk.specs.Events.{Event, HasCollision}
+use Rattle.sqlite_store.specs.FileStore.{files as two_files, is_shielded, view}
+use Rattle.sqlite_store.specs.declared.store.FileStore.{FileStore}
+use Rattle.sqlite_trees.specs.View.{IsClean}
+use Rattle.sqlite_wal.specs.Reads.{AreClean}
+use Rattle.sqlite_wal.specs.Recovery.{Image}
+use Rattle.sqlite.specs.Files.{file_state, over_files}
+use Rattle.sqlite.specs.Held.{Held}
+use Rattle.sqlite.specs.State.{HasCleanDisk}
+use Rattle.office_store.specs.declared.fault.Fault.TheVariants as fault
+use Rattle.office_command_line.specs.Orders.{Command}
+use Rattle.office_commands.specs.Files.{IsLeftShielded, IsOpenedFrom, RunsInFiles, ServesInFiles}
+use Rattle.office_commands.specs.Running.{RunEnds}
+use Rattle.office_commands.specs.Serving.{ServiceEnds}
+use Rattle.office_commands.specs.declared.ending.Ending.{Ending}
+use Rattle.office_commands.specs.declared.ending.Ending.TheVariants as how
+use Rattle.office_commands.specs.declared.office_files.FilesLeft.{FilesLeft}
+use Rattle.office_commands.specs.declared.office_files.FilesLeft.TheVariants as files
+
+-- no wrong answer of the disk was taken as true
+abbrev pub IsLeftClean : {D : Type 0} {g : Ghosts D} → FilesLeft D g → Type 0
+IsLeftClean (files.Unopened left) = Unit {0}
+IsLeftClean {g = g} (files.Closed it) = AreClean g it.log it.db
+IsLeftClean (files.Unclosed store) = IsClean (view store)
+
+-- a read of one of the two files returned other bytes than were written there, of the same digest under the key of the
+-- log
+abbrev pub HaveCollided : {D : Type 0} → Ghosts D → (D → List ℕ) → (D → List Event) → D × D → Type 0
+HaveCollided g start calls it =
+    HasCollision (g.key_of it.0) (start it.0) (calls it.0) ⊎ HasCollision (g.key_of it.0) (start it.1) (calls it.1)
+
+-- the calls of each file are recorded: what it held before the first, and each with its answer
+module _ {D : Type 0} {g : Ghosts D} (start : D → List ℕ) (calls : D → List Event) where
+  abbrev pub HasLeftCollided : FilesLeft D g → Type 0
+  HasLeftCollided (files.Unopened left) = ⊥
+  HasLeftCollided (files.Closed it) = HaveCollided g start calls (it.log, it.db)
+  HasLeftCollided (files.Unclosed store) = HaveCollided g start calls (two_files store)
+
+  -- where each read is tested, no wrong answer was taken as true, or a digest collided
+  abbrev pub IsCleanOrCollided : FilesLeft D g → Type 0
+  IsCleanOrCollided left = IsLeftShielded left → IsLeftClean left ⊎ HasLeftCollided left
+
+  -- files that held this were not opened, which is fault 31, with nothing written; or so it ended over a connection to
+  -- them, and where no wrong answer was taken as true while they were opened, none was to the end, or a digest collided
+  abbrev pub FindsDamage : FilesLeft D g → Image → (Held (FileStore D g) → Held (FileStore D g) → Type 0)
+      → Option (List ℕ) → Option (List ℕ) → Ending → Type 0
+  FindsDamage left image Ends written after ending =
+      ((ending ≡ how.Fault fault.Store) × (after ≡ written))
+      ⊎ ((was last : Held (FileStore D g)) × IsOpenedFrom image was last × Ends was last
+      × (HasCleanDisk (file_state was) → (HasCleanDisk (file_state last) × IsLeftClean left) ⊎ HasLeftCollided left))
+
+  -- each command over files of which this is left ended so
+  abbrev pub CommandFindsDamage : FilesLeft D g → Type 0
+  CommandFindsDamage left =
+      (image : Image) (order : Command) (text written after : Option (List ℕ)) (ending : Ending)
+      → RunsInFiles left image order text written after ending
+      → FindsDamage left image (λ was last. RunEnds over_files order text was last written after ending) written after
+      ending
+
+  -- and each service
+  abbrev pub ServiceFindsDamage : FilesLeft D g → Type 0
+  ServiceFindsDamage left =
+      (image : Image) (port count : ℕ) (written after : Option (List ℕ)) (ending : Ending)
+      → ServesInFiles left image port count written after ending
+      → FindsDamage left image (λ was last. ServiceEnds over_files port count was last written after ending) written
+      after ending
