@@ -12,7 +12,7 @@ use sqlite_disk::{Calls, Modelled, Start};
 /// that fails its test is a failed call, which is fault 31 where it is not made good.
 ///
 /// Which connection was opened no clause says: it is the one that [`crate::open_and_run`],
-/// [`crate::open_and_serve`] have from the database, by their bodies.
+/// [`crate::open_and_apply`] and [`crate::open_and_serve`] have from the database, by their bodies.
 ///
 /// It says nothing of damage before the opening or between two runs, of which the opening finds
 /// what makes the pages unsound, and nothing of bytes that no call reads again.
