@@ -1,5 +1,5 @@
 -- Where a desk is after a session, and what went out.
-use Rattle.std.proofs.Common.{◌≡◌, ◌≢◌, ◌⊎◌, ◌∙◌, inl, inr, ap, refl, subst, sym, ℕ, ℤ, List, [], ◌∷◌, ◌++◌, map, Option, Some, None, Result, Ok, Err}
+use Rattle.std.proofs.Common.{◌≡◌, ◌≢◌, ◌⊎◌, ◌∙◌, inl, inr, ap, refl, subst, sym, ℕ, Bool, false, List, [], ◌∷◌, ◌++◌, Option, Some, None, Result, Ok, Err}
 use Rattle.std.specs.FinMap.{get}
 use Rattle.std.specs.Prelude.{IfOk, IsOkAnd}
 use Rattle.sqlite.specs.Held.{state}
@@ -22,12 +22,11 @@ use Rattle.office_desk.specs.Resuming.{resumed_answer}
 use Rattle.office_json.specs.Lists.{NoActs, acts_in, bad_act, not_json}
 use Rattle.office_http.specs.Receiving.{Wanted, acts, cut, refused, requested, wanted}
 use Rattle.office_http.specs.Replies.{Response, failure_response, response_text, status_number}
-use Rattle.office_http.specs.RequestPlans.{is_head_method}
 use Rattle.office_http.specs.Requests.{Request, IsRequest, nothing, headless, asks}
 use Rattle.office_http.specs.declared.failure.Failure.TheVariants as failure
 use Rattle.office_http.specs.declared.path_request.PathRequest.TheVariants as path
 use Rattle.office_http.specs.declared.status.Status.{Status}
-use Rattle.office_wire.specs.Answering.{ArePerformed, Answers, IsUnavailable, PerformsAsked, Reports, ReportsCertificate, ReportsContent, ReportsDue, ReportsOverdue, ReportsRecord, Resumes, acts_reply, content_reply}
+use Rattle.office_wire.specs.Answering.{Answers, IsUnavailable, PerformsAsked, Reports, Resumes, acts_reply, content_reply}
 use Rattle.office_wire.specs.Exchanges.{AreExchanged, IsExchanged, none, one_more}
 use Rattle.office_wire.specs.Replies.{acts_response, answer_response, content_response, fault_response, json_response, stopped_response}
 use Rattle.office_wire.specs.Serving.{IsReply, IsReplied, IsServed, Replies}

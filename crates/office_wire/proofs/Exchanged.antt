@@ -9,13 +9,13 @@ use Rattle.office_base.specs.declared.output.Io.{Io}
 use Rattle.office_rules.specs.State.{State}
 use Rattle.office_desk.specs.Desk.{DeskState}
 use Rattle.office_http.specs.Replies.{Response, response, response_text}
-use Rattle.office_wire.specs.Calling.{AnsweredAt, CalledAt}
-use Rattle.office_wire.specs.Connections.{IsVisited, Turn, has_failed}
+use Rattle.office_wire.specs.Calling.{CalledAt}
+use Rattle.office_wire.specs.Connections.{IsVisited, has_failed}
 use Rattle.office_wire.specs.Exchanges.{AreExchanged, AreServed, IsExchanged, IsNextServed, none, one_more}
 use Rattle.office_wire.specs.Serving.{Breaks, GoneReplies, InHalves, IsGoneAnswered, IsGoneReply, IsOneServed, IsReply, LeavesServed, Replies, Sends}
 use Rattle.office_wire.specs.Sources.{Closes, IsAccepted, Sent, Told}
 use Rattle.office_wire.specs.declared.exchange.OutgoingReply.{OutgoingReply}
-use Rattle.office_wire.proofs.Calls.{answered, called}
+use Rattle.office_wire.proofs.Calls.{called}
 
 -- ---- whatever was read
 

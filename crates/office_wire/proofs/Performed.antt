@@ -1,5 +1,5 @@
 -- Acts that came to an outcome, as it is answered.
-use Rattle.std.proofs.Common.{◌≡◌, ◌∙◌, ap, subst, sym, List, [], Result, Ok, Err}
+use Rattle.std.proofs.Common.{◌≡◌, ◌∙◌, ap, subst, sym, List, [], Result}
 use Rattle.office_rules.specs.declared.answer.Answer.{Answer}
 use Rattle.office_store.specs.declared.fault.Fault.{Fault}
 use Rattle.office_desk.specs.Outcomes.{acts_outcome}

@@ -1,5 +1,5 @@
 -- How what was done is answered.
-use Rattle.std.proofs.Common.{◌≡◌, inr, refl, subst, sym, ℕ, List, Result, Ok, Err}
+use Rattle.std.proofs.Common.{◌≡◌, inr, subst, sym, ℕ, List, Result, Ok, Err}
 use Rattle.sqlite_trees.specs.declared.store.Store.{Ghosts}
 use Rattle.office_rules.specs.State.{State}
 use Rattle.office_rules.specs.declared.act.Act.{Act}

@@ -1,4 +1,4 @@
-use Rattle.std.proofs.Common.{Ok, Err, refl, sym, rules}
+use Rattle.std.proofs.Common.{Ok, refl, sym, rules}
 use Rattle.std.specs.FinMap.{empty}
 use Rattle.office_rules.specs.Runs.{open_run}
 use Rattle.office_rules.specs.State.{with_contents}
