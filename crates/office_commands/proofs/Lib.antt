@@ -4,6 +4,8 @@ pub mod Certificates
 pub mod Closings
 pub mod Desks
 pub mod Exports
+pub mod FromNoFile
+pub mod Histories
 pub mod Imports
 pub mod KeptRest
 pub mod LeftTables

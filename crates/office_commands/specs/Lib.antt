@@ -3,6 +3,7 @@ pub mod Calling
 pub mod Certifying
 pub mod Endings
 pub mod Exporting
+pub mod FileHistory
 pub mod Files
 pub mod Importing
 pub mod Making

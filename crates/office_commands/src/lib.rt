@@ -6,7 +6,8 @@
 //! the records of a CSV file, and `export` writes a register. Each ends with an [`Ending`], what
 //! the program reports to the caller: the exit status, and the line on standard error.
 //! `office_files` opens the office's file, has a command carried out, and closes it; `service` does
-//! so for a service. `next_command` has the law from one command over a file to the next.
+//! so for a service. `next_command` has the law from one command over a file to the next, and
+//! `file_history` that of any number of them.
 #![tactic(auto)]
 
 mod apply;
@@ -15,6 +16,7 @@ mod command;
 mod ending;
 mod ending_line;
 mod export;
+mod file_history;
 mod init;
 mod next_command;
 mod office_files;
@@ -27,6 +29,7 @@ pub use certificate::certificate_on;
 pub use command::{report_listening, run_on};
 pub use ending::Ending;
 pub use ending_line::report;
+pub use file_history::{law_of_each_run, law_of_file_histories};
 pub use init::init_on;
 pub use next_command::{law_of_a_killed_command, law_of_each_command, law_of_the_next_command};
 pub use office_files::{FilesLeft, open_and_run};

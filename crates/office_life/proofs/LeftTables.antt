@@ -118,11 +118,7 @@ module _ (size : ℕ) (old new : Image) (trees : Trees) (h : HoldsTables old tre
         ]
       ]
 
-module _ {D : Type 0} {g : Ghosts D} (never : NeverLies g) where
-  -- a store over disks that never lie is clean
-  pub never_dirty : (it : FileStore D g) → IsClean (view it)
-  never_dirty it = no_doubt _ (clean_is it.pool ∙ and_from _ _ (never _) (never _))
-
+module _ {D : Type 0} {g : Ghosts D} where
   -- each image that a crash may leave of a store holds tables that the store allows
   pub leaves_tables : (it : FileStore D g) → IsTrue (view it).is_numbered → AreDatabases (recovers it) → (image : Image) → (state it).may_leave image
       → ∥ ((db : Trees) × recovers it db × HoldsTables image db) ∥₁
@@ -148,6 +144,11 @@ module _ {D : Type 0} {g : Ghosts D} (never : NeverLies g) where
           },
         ),
       ) in r)))
+
+module _ {D : Type 0} {g : Ghosts D} (never : NeverLies g) where
+  -- a store over disks that never lie is clean
+  pub never_dirty : (it : FileStore D g) → IsClean (view it)
+  never_dirty it = no_doubt _ (clean_is it.pool ∙ and_from _ _ (never _) (never _))
 
   clean_left : (rest : Leftover D g) → IsCleanLeft rest
   clean_left (left.Files files) = and_from _ _ (never _) (never _)

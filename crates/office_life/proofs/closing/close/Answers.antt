@@ -20,5 +20,5 @@ returns-clause-held g c never held image may =
     let fewer = c.copy-remains.ensures.fewer in
     let numbered = c.copy-remains.ensures.numbered never held (c.into_store-store.ensures.numbered clean) in
     let left = may_leave_is last.pool image (and_from _ _ (never _) (never _)) (subst (λ p. outcomes g.D.Disk p.0 p.1 image) c.close.ensures may) in
-    ∥∥₁_map (leaves_tables never last numbered (λ db found. c.into_store-store.ensures.sound clean db (fewer db found)) image left)
+    ∥∥₁_map (leaves_tables last numbered (λ db found. c.into_store-store.ensures.sound clean db (fewer db found)) image left)
     (λ db. (db.0, c.into_store-store.ensures.quiet.outcomes db.0 (fewer db.0 db.1), db.2))
