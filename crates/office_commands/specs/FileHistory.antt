@@ -55,7 +55,7 @@ IsLeftAt (ran_service port count written after ending) s u = (u ≡ s) ⊎ IsSer
 
 -- what is known of the files that it left
 abbrev pub remains_left : {D : Type 0} {g : Ghosts D} → FilesLeft D g → Remains
-remains_left (files.Unopened None) = remains.Unknown
+remains_left (files.Unopened None) = remains.Same
 remains_left (files.Unopened (Some it)) = remains_of it
 remains_left (files.Closed it) = remains.Held
 remains_left (files.Unclosed store) = remains.Held

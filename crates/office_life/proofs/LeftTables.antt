@@ -200,9 +200,3 @@ module _ {D : Type 0} (g : Ghosts D) (never : NeverLies g) where
       → (image : Image) → outcomes g it.log it.db image → IsSpared files stage (stage_after stage found) image
   spared files rest it is leaves found same stage known image may =
       subst (λ (r : Remains). IsSpared files stage (stage_after stage r) image) (sym same) (spared_by files rest it is (leaves (clean_left never rest)) stage (subst (λ (r : Remains). IsKnownAt stage r) same known) image may)
-
--- files that were not opened hold nothing new
-pub not_held : {D : Type 0} {g : Ghosts D} (rest : Leftover D g) (found : Remains) → found ≡ remains_of rest → found ≡ remains.Held → ⊥
-not_held (left.Files files) found is held = cc
-not_held (left.Unopened now) found is held = cc
-not_held (left.Store now) found is held = cc

@@ -4,13 +4,14 @@ use Rattle.std.proofs.Math.Logic.{∥∥₁_map}
 use Rattle.sqlite_pool.proofs.StateLemmas.{may_leave_is}
 use Rattle.sqlite_wal.specs.Files.{outcomes}
 use Rattle.office_life.proofs.LeftTables.{leaves_tables, never_dirty}
+use Rattle.office_life.proofs.Tellings.{told_closed}
 use Rattle.office_life.proofs.closing.close.Goals as goal
 
 pub returns-clause-clean : goal.returns-clause-clean
 returns-clause-clean g c never = never_dirty never c.args.conn.store
 
-pub returns-clause-known : goal.returns-clause-known
-returns-clause-known g c = c.copy-remains.ensures.known
+pub returns-clause-told : goal.returns-clause-told
+returns-clause-told g c never = told_closed _ _ c.close.result c.close.ensures _ (c.copy-remains.ensures.told never)
 
 pub returns-clause-held : goal.returns-clause-held
 returns-clause-held g c never held image may =
