@@ -15,5 +15,6 @@ pub mod NextStates
 pub mod Openings
 pub mod Reopenings
 pub mod Resumptions
+pub mod RunActs
 pub mod Services
 pub mod Unopened

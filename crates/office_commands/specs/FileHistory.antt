@@ -14,7 +14,11 @@ use Rattle.sqlite.specs.Held.{Held}
 use Rattle.sqlite.specs.State.{HasCleanDisk}
 use Rattle.sqlite.specs.declared.file.Leftover.{Leftover}
 use Rattle.sqlite.specs.declared.file.Leftover.TheVariants as leftover
+use Rattle.office_rules.specs.Acts.{after}
+use Rattle.office_rules.specs.Sound.{IsSound}
 use Rattle.office_rules.specs.State.{State}
+use Rattle.office_rules.specs.declared.act.Act.{Act}
+use Rattle.office_desk.specs.Fates.{AreContentsAfter}
 use Rattle.office_life.specs.Standing.{IsKnownAt, Stage, StandsAt, remains_of, stage_after, stored}
 use Rattle.office_life.specs.declared.reports.Remains.{Remains}
 use Rattle.office_life.specs.declared.reports.Remains.TheVariants as remains
@@ -115,6 +119,12 @@ pub data StateHistory (s : State) : List ProgramRun → State → Type 0 where
   stayed : StateHistory s [] s
   led : (runs : List ProgramRun) (run : ProgramRun) (t u : State) → StateHistory s runs t → IsLeftAt run t u
       → StateHistory s (runs ++ run ∷ []) u
+
+-- such runs did acts, and these report the contents of the office
+abbrev pub ReportsContents : Type 0
+ReportsContents =
+    (s u : State) (runs : List ProgramRun) → IsSound s → StateHistory s runs u
+    → (done : List Act) × (u ≡ after s done) × AreContentsAfter s done u
 
 -- after any number of runs the files stand for the state to which they led
 abbrev pub FilesFollow : Type 0

@@ -1,6 +1,7 @@
 //! Any number of runs of the program over an office's files, from no file on.
-ghost use Rattle.office_commands.specs.FileHistory.{FilesFollow, KilledRunsLead, RunsLead};
+ghost use Rattle.office_commands.specs.FileHistory.{FilesFollow, KilledRunsLead, ReportsContents, RunsLead};
 
+use office_desk::fates::law_of_fates;
 use office_rules::laws::resumption::law_of_resumption;
 use office_rules::laws::soundness::law_of_soundness;
 use office_store::laws::law_of_one_database;
@@ -27,7 +28,11 @@ pub fn law_of_each_run<D: Disk + Drop>()
 /// The headline for any number of commands. Runs of the program, one after another over an office's
 /// files, lead from the state for which the files stood, which may be no file yet, to one for which
 /// they stand then: each leaves the office where [`law_of_each_run`] says (`StateHistory`). The
-/// disks need not be the same.
+/// disks need not be the same. From a sound state the contents are those that the acts of the runs
+/// report: one is gone exactly if an act ended its record, which no hold covered.
 pub fn law_of_file_histories()
-    ensures { FilesFollow }
-{}
+    ensures follow { FilesFollow }
+    ensures contents { ReportsContents }
+{
+    law_of_fates();
+}
