@@ -150,7 +150,7 @@ module _ {D : Type 0} {g : Ghosts D} (never : NeverLies g) where
   pub never_dirty : (it : FileStore D g) → IsClean (view it)
   never_dirty it = no_doubt _ (clean_is it.pool ∙ and_from _ _ (never _) (never _))
 
-  clean_left : (rest : Leftover D g) → IsCleanLeft rest
+  pub clean_left : (rest : Leftover D g) → IsCleanLeft rest
   clean_left (left.Files files) = and_from _ _ (never _) (never _)
   clean_left (left.Unopened now) = clean_is now.pool ∙ and_from _ _ (never _) (never _)
   clean_left (left.Store it) = clean_is it.pool ∙ and_from _ _ (never _) (never _)

@@ -16,6 +16,13 @@ use Rattle.office_life.specs.declared.reports.Report.{Report}
 use Rattle.office_life.specs.declared.reports.StintEnd.TheVariants as end
 
 module _ {D : Type 0} {g : Ghosts D} where
+  -- a store that was open was shut, since a call of its disk failed or a limit of the format was met
+  pub record IsShut (before after : FileStore D g) : Type 0 where
+    pub was_open : IsTrue (view before).is_open
+    pub shut : (view after).is_open ≡ false
+    pub failed : MoreFaults (faults before) (faults after)
+
+module _ {D : Type 0} (g : Ghosts D) where
   -- the opening stopped while it read the tables: over what is left there is a store, and it stands for the tables that the
   -- files held, or for none if they held no database
   pub record IsUnread (files now : Files D) : Type 0 where
@@ -23,12 +30,6 @@ module _ {D : Type 0} {g : Ghosts D} where
     pub over : (now.log, now.db) ≡ files_of store
     pub same : (found held : Trees) → recovers store found → HoldsDatabase (image_of g files) held → found ≡ held
     pub none : (found : Trees) → recovers store found → IsNothing (image_of g files) → IsEmpty found
-
-  -- a store that was open was shut, since a call of its disk failed or a limit of the format was met
-  pub record IsShut (before after : FileStore D g) : Type 0 where
-    pub was_open : IsTrue (view before).is_open
-    pub shut : (view after).is_open ≡ false
-    pub failed : MoreFaults (faults before) (faults after)
 
   -- the closing failed: it shut the store over what is left
   pub record IsUnclosed (now : Files D) : Type 0 where

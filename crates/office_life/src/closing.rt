@@ -41,7 +41,7 @@ fn copy<D: Disk>(store: &mut FileStore<D>) -> Remains
 /// Closes a connection, whatever became of it, and gives its files back.
 pub(crate) fn close<D: Disk + Drop>(conn: Connection<FileStore<D>>) -> (Remains, Files<D>)
     ensures clean { NeverLies D.Disk → HasCleanDisk (file_state conn) }
-    ensures told { NeverLies D.Disk → IsToldClosed result.0 result.1 }
+    ensures told { NeverLies D.Disk → IsToldClosed D.Disk result.0 result.1 }
     ensures held { NeverLies D.Disk → result.0 ≡ Remains.Held → (image : Image)
         → outcomes D.Disk result.1.log result.1.db image
         → ∥ ((db : Trees) × (file_state conn).may_leave db × HoldsTables image db) ∥₁ }

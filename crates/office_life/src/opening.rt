@@ -48,7 +48,7 @@ pub(crate) fn open<D: Disk + Drop>(
     ensures idle { IfOk result (λ conn. conn.in_transaction ≡ false) }
     ensures found { NeverLies D.Disk → IfOk result (λ conn. (stage : Stage) (s : State)
         → StandsAt stage (image_of D.Disk files) s → RestsAt (file_state conn) s) }
-    ensures told { NeverLies D.Disk → IfErr result (λ e. IsToldUnopened e.0 files e.1) }
+    ensures told { NeverLies D.Disk → IfErr result (λ e. IsToldUnopened D.Disk e.0 files e.1) }
     ensures spared { NeverLies D.Disk → IfErr result (λ e. (stage : Stage) → IsKnownAt stage e.0
         → (image : Image) → outcomes D.Disk e.1.log e.1.db image
         → outcomes D.Disk files.log files.db image ⊎ ((s : State)

@@ -22,7 +22,7 @@ pub fn stint<D: Disk + Drop>(alloc: Global, files: Files<D>, task: &Task) -> (Re
     ensures led { NeverLies D.Disk → (stage : Stage) → IsKnownAt stage result.0.remains
         → FilesLead stage (stage_after stage result.0.remains) (Leads task.now result.0.end)
         (outcomes D.Disk files.log files.db) (outcomes D.Disk result.1.log result.1.db) }
-    ensures told { NeverLies D.Disk → IsTold result.0 files result.1 }
+    ensures told { NeverLies D.Disk → IsTold D.Disk result.0 files result.1 }
 {
     match open(alloc, files) {
         Ok(conn) => {

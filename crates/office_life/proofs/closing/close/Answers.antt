@@ -11,7 +11,7 @@ pub returns-clause-clean : goal.returns-clause-clean
 returns-clause-clean g c never = never_dirty never c.args.conn.store
 
 pub returns-clause-told : goal.returns-clause-told
-returns-clause-told g c never = told_closed _ _ c.close.result c.close.ensures _ (c.copy-remains.ensures.told never)
+returns-clause-told g c never = told_closed g.D.Disk _ _ c.close.result c.close.ensures _ (c.copy-remains.ensures.told never)
 
 pub returns-clause-held : goal.returns-clause-held
 returns-clause-held g c never held image may =

@@ -17,9 +17,9 @@ closed_if_broken false never = refl
 is_shut : (is_open : Bool) → is_open ≡ false → IsTrue is_open → ⊥
 is_shut is_open shut on = cc
 
-pub returns-in-if-is_broken-2-clause-told : goal.returns-in-if-is_broken-2-clause-told
-returns-in-if-is_broken-2-clause-told g c never =
-    let was = c.args.store in
+pub returns-then-is_broken-2-clause-told : goal.returns-then-is_broken-2-clause-told
+returns-then-is_broken-2-clause-told g c never =
+    let was = c.args.store.now in
     let last = c.checkpoint.new.self in
     let clean = never_dirty never last in
     let whole : (view was).is_broken ≡ false = sym (c.is_broken.ensures.shown (never_dirty never was)) ∙ c.if-is_broken.false in

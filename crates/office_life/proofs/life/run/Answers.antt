@@ -17,7 +17,7 @@ loop-task-init g c = record {
   led = λ never stage known.
       let old = outcomes g.D.Disk c.args.files.log c.args.files.db in
       subst (λ (xs : List Report). FilesLead stage (stage_at_end stage xs) (LeadsOn [] xs) old old) (sym c.new-reports.ensures.items) (began_at stage old);
-  told = λ never. subst (λ (xs : List Report). AreTold {g = g.D.Disk} c.args.files xs c.args.files) (sym c.new-reports.ensures.items) refl;
+  told = λ never. subst (λ (xs : List Report). AreTold g.D.Disk c.args.files xs c.args.files) (sym c.new-reports.ensures.items) refl;
 }
 
 pub loop-task-preserved : goal.loop-task-preserved
@@ -43,8 +43,8 @@ loop-task-preserved g c = record {
       let it = c.stint-report.result.0 in
       let reports = c.loop-task.reports.items in
       let now : c.push.new.self.items ≡ reports ++ it ∷ [] = search rules in
-      subst (λ (xs : List Report). AreTold {g = g.D.Disk} c.args.files xs c.crash.new.files) (sym now)
-      (told_on reports it c.args.files c.loop-task.files c.stint-report.result.1 c.crash.new.files (c.loop-task.invariant.told never) (c.stint-report.ensures.told never) c.crash.ensures.fewer);
+      subst (λ (xs : List Report). AreTold g.D.Disk c.args.files xs c.crash.new.files) (sym now)
+      (told_on g.D.Disk reports it c.args.files c.loop-task.files c.stint-report.result.1 c.crash.new.files (c.loop-task.invariant.told never) (c.stint-report.ensures.told never) c.crash.ensures.fewer);
 }
 
 pub returns-clause-led : goal.returns-clause-led

@@ -17,7 +17,7 @@ returns-in-Ok-clause-found g c never stage s stands =
     rests_at (file_state conn) opened.0 opened.1 (law.only opened.0.is_open) (law.stays opened.0.is_open) (image_of g.D.Disk c.args.files) found.holds found.reads stage s stands
 
 pub returns-in-Err-clause-told : goal.returns-in-Err-clause-told
-returns-in-Err-clause-told g c never = told_unopened never c.args.files _ _ c.into_files.ensures c.in-Err.ensures.unharmed _ c.remains_by-remains.ensures
+returns-in-Err-clause-told g c never = told_unopened g.D.Disk never c.args.files _ _ c.into_files.ensures c.in-Err.ensures.unharmed _ c.remains_by-remains.ensures
 
 pub returns-in-Err-clause-spared : goal.returns-in-Err-clause-spared
 returns-in-Err-clause-spared g c never =

@@ -16,7 +16,7 @@ returns-in-Err-clause-told g c never = inl (refl, c.in-Err.ensures.told never)
 pub returns-in-Ok-clause-led : goal.returns-in-Ok-clause-led
 returns-in-Ok-clause-led g c never stage known =
     let remains = c.close-remains.result.0 in
-    let held = held_if_known stage remains c.close-remains.result.1 (c.close-remains.ensures.told never) known in
+    let held = held_if_known g.D.Disk stage remains c.close-remains.result.1 (c.close-remains.ensures.told never) known in
     let old = outcomes g.D.Disk c.args.files.log c.args.files.db in
     let files = c.close-remains.result.1 in
     let leads = Leads c.args.task.now c.work_at-end.result.0 in
@@ -26,4 +26,4 @@ returns-in-Ok-clause-led g c never stage known =
 
 pub returns-in-Err-clause-led : goal.returns-in-Err-clause-led
 returns-in-Err-clause-led g c never stage known =
-    not_worked g.D.Disk g.met.D.Disk.seen_may_stay c.args.files c.in-Err.files stage c.args.task.now c.in-Err.remains (not_held c.in-Err.remains c.args.files c.in-Err.files (c.in-Err.ensures.told never)) known (c.in-Err.ensures.spared never stage known)
+    not_worked g.D.Disk g.met.D.Disk.seen_may_stay c.args.files c.in-Err.files stage c.args.task.now c.in-Err.remains (not_held g.D.Disk c.in-Err.remains c.args.files c.in-Err.files (c.in-Err.ensures.told never)) known (c.in-Err.ensures.spared never stage known)
