@@ -124,6 +124,11 @@ are_databases was last s Is rests leaves db may = elim (leaves db may).2 [
 
 -- ---- one run
 
+-- files that were not opened are left at the same state
+stays_at : (run : ProgramRun) (s : State) → IsLeftAt run s s
+stays_at (ran_command order text written after ending) s = inl refl
+stays_at (ran_service port count written after ending) s = inl refl
+
 module _ (one : IsOneDatabase) (stay : StaySound) (empty : IsSound empty_state) (ends : IsEnded) {D : Type 0} {g : Ghosts D} where
   -- where a run leaves an office, whatever a crash leaves of its connection
   leaves_so : (run : ProgramRun) (was last : Held (FileStore D g)) (s : State) → RestsAt (file_state was) s → HasCleanDisk (file_state last) → EndedSo run was last
@@ -132,11 +137,6 @@ module _ (one : IsOneDatabase) (stay : StaySound) (empty : IsSound empty_state) 
       let at = command_from one stay empty ends over_files was last s clean rests order text written after ending ended db may in (at.0, inr at.1, at.2)
   leaves_so (ran_service port count written after ending) was last s rests clean ended db may =
       let at = service_from one stay empty ends over_files was last s clean rests port count written after ending ended db may in (at.0, inr at.1, at.2)
-
-  -- files that were not opened are left at the same state
-  stays_at : (run : ProgramRun) (s : State) → IsLeftAt run s s
-  stays_at (ran_command order text written after ending) s = inl refl
-  stays_at (ran_service port count written after ending) s = inl refl
 
   module _ (run : ProgramRun) (stage : Stage) (image next : Image) where
     not_opened : (left : FilesLeft D g) → IsUnopenedLeft image left → IsKnownAt stage (remains_left left) → IsFoundNext left next → RunLeads run stage image (stage_after stage (remains_left left)) next
@@ -177,7 +177,7 @@ module _ (one : IsOneDatabase) (stay : StaySound) (empty : IsSound empty_state) 
 
 -- ---- any number of runs
 
-pub files_follow : (start stage : Stage) (first image : Image) (s : State) (runs : List ProgramRun) → StandsAt start first s → FileHistory start first runs stage image → ∥ ((u : State) × StateHistory s runs u × StandsAt stage image u) ∥₁
-files_follow start stage first image s runs stands (began) = ∣ (s, stayed, stands) ∣₁
-files_follow start stage first image s runs stands (went_on before was held run is next history leads) =
-    ∥∥₁_elim (files_follow start was first held s before stands history) squash₁ (λ (t : (x : State) × StateHistory s before x × StandsAt was held x). ∥∥₁_map (leads t.0 t.2) (λ (u : (x : State) × IsLeftAt run t.0 x × StandsAt is next x). (u.0, led before run t.0 u.0 t.1 u.1, u.2)))
+pub files_follow : (start : Stage) (first : Image) (s : State) (runs : List ProgramRun) (stage : Stage) (image : Image) → StandsAt start first s → FileHistory start first runs stage image → ∥ ((u : State) × StateHistory s runs u × StandsAt stage image u) ∥₁
+files_follow start first s runs stage image stands (began) = ∣ (s, stayed, stands) ∣₁
+files_follow start first s runs stage image stands (went_on before was held run is next history leads) =
+    ∥∥₁_elim (files_follow start first s before was held stands history) squash₁ (λ (t : (x : State) × StateHistory s before x × StandsAt was held x). ∥∥₁_map (leads t.0 t.2) (λ (u : (x : State) × IsLeftAt run t.0 x × StandsAt is next x). (u.0, led before run t.0 u.0 t.1 u.1, u.2)))

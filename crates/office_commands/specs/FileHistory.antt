@@ -129,5 +129,6 @@ ReportsContents =
 -- after any number of runs the files stand for the state to which they led
 abbrev pub FilesFollow : Type 0
 FilesFollow =
-    (start stage : Stage) (first image : Image) (s : State) (runs : List ProgramRun) → StandsAt start first s
-    → FileHistory start first runs stage image → ∥ ((u : State) × StateHistory s runs u × StandsAt stage image u) ∥₁
+    (start : Stage) (first : Image) (s : State) (runs : List ProgramRun) (stage : Stage) (image : Image)
+    → StandsAt start first s → FileHistory start first runs stage image
+    → ∥ ((u : State) × StateHistory s runs u × StandsAt stage image u) ∥₁
