@@ -5,6 +5,8 @@ pub mod Closings
 pub mod Desks
 pub mod Exports
 pub mod FoundDamage
+pub mod FromNoFile
+pub mod Histories
 pub mod Imports
 pub mod KeptRest
 pub mod LeftTables
@@ -14,5 +16,6 @@ pub mod NextStates
 pub mod Openings
 pub mod Reopenings
 pub mod Resumptions
+pub mod RunActs
 pub mod Services
 pub mod Unopened

@@ -19,9 +19,10 @@ use Rattle.office_rules.specs.State.{State}
 use Rattle.office_store.specs.RepresentsRows.{RepresentsRowsIn}
 use Rattle.office_command_line.specs.Orders.{Command}
 use Rattle.office_commands.specs.Files.{HeldOffice, IsClosedCopy, IsLeftOf, IsUnclosed, IsUnopenedLeft, RunsInFiles, ServesInFiles}
-use Rattle.office_commands.specs.NextCommand.{HoldsOfficeAt, HoldsWholeOffice, IsLeftBy, IsOfficeAt, IsServedTo, LeavesAt, LeavesFilesAt, StaysOffice}
-use Rattle.office_commands.specs.Tables.{HoldsTables, SparesTables}
-use Rattle.office_commands.proofs.LeftTables.{database_of, leaves_tables}
+use Rattle.office_commands.specs.NextCommand.{HoldsOfficeAt, HoldsWholeOffice, IsLeftBy, IsServedTo, LeavesAt, LeavesFilesAt, StaysOffice}
+use Rattle.office_life.specs.Tables.{HoldsTables, IsOfficeAt}
+use Rattle.office_life.proofs.LeftTables.{database_of, leaves_tables}
+use Rattle.office_commands.specs.Tables.{SparesTables}
 use Rattle.office_commands.specs.declared.ending.Ending.{Ending}
 use Rattle.office_commands.specs.declared.office_files.FilesLeft.{FilesLeft}
 use Rattle.office_commands.specs.declared.office_files.FilesLeft.TheVariants as files
@@ -36,12 +37,11 @@ module _ {D : Type 0} {g : Ghosts D} (old : Image) (s : State) (Is : State → T
   -- ---- of files that were not opened
 
   stays_office : (rest : Leftover D g) → SparesTables old rest → HoldsWholeOffice old s → StaysOffice s rest
-  stays_office (leftover.Files it) spared whole = λ clean image may.
-      record { trees = whole.trees; held = ∥∥₁_map whole.held (λ (h : HoldsTables old whole.trees). spared clean image may whole.trees h); office = whole.office }
+  stays_office (leftover.Files it) spared whole = λ clean image may. subst (λ (i : Image). HoldsWholeOffice i s) (sym (spared clean image may)) whole
   stays_office (leftover.Unopened it) spared whole = λ clean image may.
-      record { trees = whole.trees; held = ∥∥₁_map whole.held (λ (h : HoldsTables old whole.trees). spared clean image may whole.trees h); office = whole.office }
+      record { trees = whole.trees; held = ∥∥₁_map whole.held (λ (h : HoldsTables old whole.trees). (spared clean image may).held whole.trees h); office = whole.office }
   stays_office (leftover.Store it) spared whole = λ clean trees may.
-      subst (λ (t : Trees). IsOfficeAt t s) (sym (∥∥₁_elim whole.held (Trees-set _ _) (λ (h : HoldsTables old whole.trees). spared clean trees whole.trees may h))) whole.office
+      subst (λ (t : Trees). IsOfficeAt t s) (sym (∥∥₁_elim whole.held (Trees-set _ _) (λ (h : HoldsTables old whole.trees). (spared clean trees may).held whole.trees h))) whole.office
 
   some_stays : (rest : Option (Leftover D g)) → IfSome rest (λ it. SparesTables old it) → (HoldsWholeOffice old s → IfSome rest (λ it. StaysOffice s it))
   some_stays None spared = λ whole. tt

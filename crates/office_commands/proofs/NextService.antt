@@ -1,7 +1,8 @@
 -- At which state a service leaves an office, whatever a crash leaves of it.
-use Rattle.std.proofs.Common.{◌⊎◌, inl, inr, ℕ, zero, suc, ◌+◌, IsTrue, Bool, false, List, [], ◌∷◌, ◌++◌, length, take, Option, Some, None, Result, Ok, Err, refl, sym, ap, subst, ◌∙◌}
+use Rattle.std.proofs.Common.{◌≡◌, ◌⊎◌, inl, inr, ℕ, zero, suc, ◌+◌, IsTrue, Bool, false, List, [], ◌∷◌, ◌++◌, length, take, Option, Some, None, Result, Ok, Err, refl, sym, ap, subst, ◌∙◌}
 use Rattle.sqlite.specs.Held.{Held, state}
 use Rattle.sqlite.specs.State.{HasCleanDisk}
+use Rattle.sqlite_trees.specs.Tree.{Trees}
 use Rattle.sqlite_trees.specs.declared.store.Store.{Ghosts}
 use Rattle.office_base.specs.declared.output.Io.{Io}
 use Rattle.office_rules.specs.Acts.{after as after_acts}
@@ -13,7 +14,7 @@ use Rattle.office_rules.specs.declared.act.Act.{Act}
 use Rattle.office_sql.specs.declared.editions.Edition.{Edition}
 use Rattle.office_sql.specs.declared.editions.Edition.TheVariants as edition
 use Rattle.office_sql.specs.Office.{IsAtRestOver}
-use Rattle.office_store.specs.RepresentsRows.{RepresentsRowsIn}
+use Rattle.office_store.specs.RepresentsRows.{HoldsRows, RepresentsRowsIn}
 use Rattle.office_store.specs.declared.fault.Fault.{Fault}
 use Rattle.office_store.specs.declared.fault.Fault.TheVariants as fault
 use Rattle.office_desk.specs.Contents.{IsContentRead}
@@ -30,7 +31,9 @@ use Rattle.office_wire.specs.Connections.{Turn, Turns}
 use Rattle.office_wire.specs.Serving.{LeavesServed}
 use Rattle.office_http.specs.Receiving.{Wanted, acts, cut, refused, requested}
 use Rattle.office_http.specs.declared.path_request.PathRequest.TheVariants as path
+use Rattle.office_life.specs.Tables.{IsOfficeAt}
 use Rattle.office_commands.specs.NextCommand.{IsServedTo, LeavesAt}
+use Rattle.office_commands.specs.Opening.{IsUnopened}
 use Rattle.office_commands.specs.Serving.{IsDeskOf, ServiceEnds}
 use Rattle.office_commands.specs.declared.ending.Ending.{Ending}
 use Rattle.office_commands.proofs.NextStates.{IsEnded, IsOneDatabase, StaySound, at_rows, at_stop, at_unopened, well_formed_prefix, found_same, sound_acts, sound_steps}
@@ -56,10 +59,17 @@ further : (s t u : State) → IsServedTo s t → IsServedTo t u → IsServedTo s
 further s t u (first, formed, is) (more, well_formed_too, then) =
     (first ++ more, formed-append first more formed well_formed_too, then ∙ ap (λ (x : State). after_acts x more) is ∙ sym (after-append s first more))
 
-module _ (stay : StaySound) (ends : IsEnded) {S : Type 0} (g : Ghosts S) where
+module _ (stay : StaySound) (ends : IsEnded) (At : Trees → State → Type 0) (office : (db : Trees) (u : State) → IsOfficeAt db u → At db u) {S : Type 0} (g : Ghosts S) where
+  -- whatever a crash leaves of it is at a state after acts
+  abbrev pub LeftServed : State → Held S → Type 0
+  LeftServed s h = (db : Trees) → (state g h).may_leave db → (u : State) × IsServedTo s u × At db u
+
   -- a desk that was served is at a state after acts; or it must be opened again, and a crash leaves such a state
   abbrev ServedAt : State → DeskState S → Type 0
-  ServedAt s d = ((u : State) × IsServedTo s u × IsAt g u d) ⊎ (IsTrue d.is_poisoned × LeavesAt (IsServedTo s) (state g d.held))
+  ServedAt s d = ((u : State) × IsServedTo s u × IsAt g u d) ⊎ (IsTrue d.is_poisoned × LeftServed s d.held)
+
+  has_rows : (d : DeskState S) (u : State) → IsSound u → HoldsRows (rows_of u) (state g d.held) → (db : Trees) → (state g d.held).may_leave db → At db u
+  has_rows d u sound holds db may = office db u (at_rows (state g d.held) u sound holds db may)
 
   as_it_was : (s : State) (d : DeskState S) → IsAt g s d → ServedAt s d
   as_it_was s d represents = inl (s, ([], tt, refl), represents)
@@ -70,11 +80,11 @@ module _ (stay : StaySound) (ends : IsEnded) {S : Type 0} (g : Ghosts S) where
   stop_served s v w to_v to_w sv sw fault.Store d stops left = inr (
     stops,
     λ db may. elim (at_stop (state g d.held) v w fault.Store sv sw left db may) [
-      | inl here ↦ (v, to_v, here)
-      | inr next ↦ (w, to_w, next)
+      | inl here ↦ (v, to_v, office db v here)
+      | inr next ↦ (w, to_w, office db w next)
     ],
   )
-  stop_served s v w to_v to_w sv sw fault.Reopen d stops left = inr (stops, λ db may. (w, to_w, at_rows (state g d.held) w sw left db may))
+  stop_served s v w to_v to_w sv sw fault.Reopen d stops left = inr (stops, λ db may. (w, to_w, has_rows d w sw left db may))
   stop_served s v w to_v to_w sv sw fault.Damaged d stops left = absurd stops
   stop_served s v w to_v to_w sv sw fault.Version d stops left = absurd stops
 
@@ -101,7 +111,7 @@ module _ (stay : StaySound) (ends : IsEnded) {S : Type 0} (g : Ghosts S) where
         stop_served t (after_steps t n) (after_steps t (suc n)) (steps_to n t) (steps_to (suc n) t) (sound_steps stay n t sound) (sound_steps stay (suc n) t sound) f d it.leads.1 it.leads.2
 
     unread_served : (r : ℕ) (f : Fault) → IsContentRead g t r (Err f) d → ServedAt t d
-    unread_served r fault.Store it = inr (it.ends.poisoned refl, λ db may. (t, ([], tt, refl), record { edition = edition.Two; office = it.offices db may; sound = sound; rows = it.leaves db may }))
+    unread_served r fault.Store it = inr (it.ends.poisoned refl, λ db may. (t, ([], tt, refl), office db t (record { edition = edition.Two; office = it.offices db may; sound = sound; rows = it.leaves db may })))
     unread_served r fault.Memory it = as_it_was t d (it.ends.kept (λ e. cc))
     unread_served r fault.Reopen it = as_it_was t d (it.ends.kept (λ e. cc))
     unread_served r fault.Damaged it = as_it_was t d (it.ends.kept (λ e. cc))
@@ -146,26 +156,39 @@ module _ (stay : StaySound) (ends : IsEnded) {S : Type 0} (g : Ghosts S) where
     turns_served (suc n) failed ended old new (m, earlier, status, turns, turn, ended_so, is) clean at =
         turn_served status m new turn clean (turns_served n earlier false old m turns (clean_turn g status m new turn clean) at)
 
-    left_at : (d : DeskState S) → ServedAt s d → LeavesAt (IsServedTo s) (state g d.held)
-    left_at d (inl (u, to, represents)) db may = (u, to, at_rows (state g d.held) u represents.sound represents.rows db may)
+    left_at : (d : DeskState S) → ServedAt s d → LeftServed s d.held
+    left_at d (inl (u, to, represents)) db may = (u, to, has_rows d u represents.sound represents.rows db may)
     left_at d (inr (gone, leaves)) db may = leaves db may
+
+-- ---- a service
+
+module _ (stay : StaySound) (ends : IsEnded) (At : Trees → State → Type 0) (office : (db : Trees) (u : State) → IsOfficeAt db u → At db u) {S : Type 0} (g : Ghosts S) (old new : Held S) (s : State) (clean : HasCleanDisk (state g new))
+    (desk_at : (desk : DeskState S) → HasCleanDisk (state g desk.held) → IsDeskOf g old desk → IsAt g s desk) (at_unopened : (f : Fault) → IsUnopened f (state g old) (state g new) → (db : Trees) → (state g new).may_leave db → At db s) where
+  abbrev served : DeskState S → Type 0
+  served d = ServedAt stay ends At office g s d
+
+  closed_so : (last : DeskState S) → new ≡ last.held → served last → LeftServed stay ends At office g s new
+  closed_so last same at = subst (LeftServed stay ends At office g s) (sym same) (left_at stay ends At office g s last at)
+
+  pub service_so : (port count : ℕ) (written after : Option (List ℕ)) (ending : Ending) → ServiceEnds g port count old new written after ending → LeftServed stay ends At office g s new
+  service_so port count written after ending (inl none) = λ db may. (s, ([], tt, refl), at_unopened none.0 none.2 db may)
+  service_so port count written after ending (inr (first, last, of, inl it, same)) =
+      let clean_last : HasCleanDisk (state g last.held) = subst (λ (h : Held S). HasCleanDisk (state g h)) same clean in
+      let at = desk_at first (subst (λ (d : DeskState S). HasCleanDisk (state g d.held)) it.1 clean_last) of in
+      closed_so last same (subst (λ (d : DeskState S). served d) (sym it.1) (as_it_was stay ends At office g s first at))
+  service_so port count written after ending (inr (first, last, of, inr (n, failed, ended, reported, turns, few, all, is), same)) =
+      let clean_last : HasCleanDisk (state g last.held) = subst (λ (h : Held S). HasCleanDisk (state g h)) same clean in
+      let at = desk_at first (clean_turns g n failed ended first last turns clean_last) of in
+      closed_so last same (turns_served stay ends At office g s n failed ended first last turns clean_last (as_it_was stay ends At office g s first at))
 
 module _ (one : IsOneDatabase) (stay : StaySound) (ends : IsEnded) {S : Type 0} (g : Ghosts S) (old new : Held S) (s : State) (clean : HasCleanDisk (state g new)) (sound : IsSound s) where
   -- the desk that was opened is at the state at which the office was
-  desk_at : (ed : Edition) (desk : DeskState S) → IsAtRestOver ed (state g old) → RepresentsRowsIn ed (rows_of s) (state g old).now.trees → IsDeskOf g old desk → HasCleanDisk (state g desk.held) → IsAt g s desk
-  desk_at ed desk rest rows of clean_desk =
+  pub desk_at : (ed : Edition) → IsAtRestOver ed (state g old) → RepresentsRowsIn ed (rows_of s) (state g old).now.trees → (desk : DeskState S) → HasCleanDisk (state g desk.held) → IsDeskOf g old desk → IsAt g s desk
+  desk_at ed rest rows desk clean_desk of =
       let m = of.opened.found ed clean_desk rest in
       subst (λ (t : State). IsAt g t desk) (found_same one stay ends (state g old) (state g new) s clean sound ed m.0 rows m.1) m.2
 
   pub service_left : (ed : Edition) → IsAtRestOver ed (state g old) → RepresentsRowsIn ed (rows_of s) (state g old).now.trees → (port count : ℕ) (written after : Option (List ℕ)) (ending : Ending) → ServiceEnds g port count old new written after ending
       → LeavesAt (IsServedTo s) (state g new)
-  service_left ed rest rows port count written after ending (inl none) = λ db may.
-      (s, ([], tt, refl), at_unopened one stay ends (state g old) (state g new) s clean sound ed none.0 rest rows none.2 db may)
-  service_left ed rest rows port count written after ending (inr (first, last, of, inl it, same)) =
-      let clean_last : HasCleanDisk (state g last.held) = subst (λ (h : Held S). HasCleanDisk (state g h)) same clean in
-      let at = desk_at ed first rest rows of (subst (λ (d : DeskState S). HasCleanDisk (state g d.held)) it.1 clean_last) in
-      subst (λ (h : Held S). LeavesAt (IsServedTo s) (state g h)) (sym same) (left_at stay ends g s last (subst (ServedAt stay ends g s) (sym it.1) (as_it_was stay ends g s first at)))
-  service_left ed rest rows port count written after ending (inr (first, last, of, inr (n, failed, ended, reported, turns, few, all, is), same)) =
-      let clean_last : HasCleanDisk (state g last.held) = subst (λ (h : Held S). HasCleanDisk (state g h)) same clean in
-      let at = desk_at ed first rest rows of (clean_turns g n failed ended first last turns clean_last) in
-      subst (λ (h : Held S). LeavesAt (IsServedTo s) (state g h)) (sym same) (left_at stay ends g s last (turns_served stay ends g s n failed ended first last turns clean_last (as_it_was stay ends g s first at)))
+  service_left ed rest rows port count written after ending it =
+      service_so stay ends IsOfficeAt (λ db u at. at) g old new s clean (desk_at ed rest rows) (λ f unopened. at_unopened one stay ends (state g old) (state g new) s clean sound ed f rest rows unopened) port count written after ending it

@@ -16,11 +16,12 @@ use Rattle.sqlite.specs.State.{State as FileState, HasCleanDisk}
 use Rattle.office_sql.specs.declared.editions.Edition.{Edition}
 use Rattle.office_sql.specs.Office.{IsAtRestOver, IsBlank, IsOfficeIn}
 use Rattle.office_store.specs.declared.fault.Fault.TheVariants as fault
+use Rattle.office_life.specs.Tables.{HoldsTables}
 use Rattle.office_command_line.specs.Orders.{Command}
 use Rattle.office_commands.specs.Applying.{TextEnds}
 use Rattle.office_commands.specs.Running.{RunEnds}
 use Rattle.office_commands.specs.Serving.{ServiceEnds}
-use Rattle.office_commands.specs.Tables.{HoldsTables, SparesTables}
+use Rattle.office_commands.specs.Tables.{SparesTables}
 use Rattle.office_commands.specs.declared.ending.Ending.{Ending}
 use Rattle.office_commands.specs.declared.ending.Ending.TheVariants as how
 use Rattle.office_commands.specs.declared.office_files.FilesLeft.{FilesLeft}
@@ -39,6 +40,8 @@ LeavesAnOffice s = (db : Trees) → s.may_leave db → (ed : Edition) × IsOffic
 -- that they held, or has room for one where it found nothing
 pub record IsOpenedFrom {D : Type 0} {g : Ghosts D} (image : Image) (was last : Held (FileStore D g)) : Type 0 where
   pub found : HasCleanDisk (file_state last) → AreFoundIn image (file_state was).now.trees
+  pub holds : HasCleanDisk (file_state last) → (trees : Trees) → HoldsDatabase image trees
+      → (file_state was).now.trees ≡ trees
   pub rest : HasCleanDisk (file_state last) → (ed : Edition) (trees : Trees) → HeldOffice ed image trees
       → IsAtRestOver ed (file_state was) × ((file_state was).now.trees ≡ trees)
   pub blank : HasCleanDisk (file_state last) → IsEmpty (file_state was).now.trees → IsBlank (file_state was)

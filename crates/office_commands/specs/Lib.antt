@@ -4,6 +4,7 @@ pub mod Certifying
 pub mod Damage
 pub mod Endings
 pub mod Exporting
+pub mod FileHistory
 pub mod Files
 pub mod Importing
 pub mod Making

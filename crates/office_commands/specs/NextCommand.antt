@@ -17,16 +17,12 @@ use Rattle.sqlite.specs.declared.file.Leftover.{Leftover}
 use Rattle.sqlite.specs.declared.file.Leftover.TheVariants as leftover
 use Rattle.office_base.specs.Output.{AppendsSome}
 use Rattle.office_rules.specs.Acts.{after as after_acts, answers}
-use Rattle.office_rules.specs.Rows.{rows_of}
 use Rattle.office_rules.specs.Runs.{after_steps, open_run, whole}
-use Rattle.office_rules.specs.Sound.{IsSound}
 use Rattle.office_rules.specs.State.{State}
 use Rattle.office_rules.specs.declared.act.Act.{Act}
 use Rattle.office_rules.specs.declared.answer.Answer.{Answer}
-use Rattle.office_sql.specs.declared.editions.Edition.{Edition}
-use Rattle.office_sql.specs.Office.{IsOfficeIn}
-use Rattle.office_store.specs.RepresentsRows.{RepresentsRowsIn}
 use Rattle.office_desk.specs.Headline.{AreWellFormed}
+use Rattle.office_life.specs.Tables.{HoldsTables, IsOfficeAt}
 use Rattle.office_command_line.specs.Orders as command
 use Rattle.office_command_line.specs.Orders.{Command}
 use Rattle.office_json.specs.Answers.{answer_lines}
@@ -35,16 +31,8 @@ use Rattle.office_csv.specs.ImportRows.{Fields}
 use Rattle.office_wire.specs.Importing.{AreLinesOut, ArePrefixRows, AreRowsDone, IsRowDone, lines_from}
 use Rattle.office_commands.specs.declared.ending.Ending.{Ending}
 use Rattle.office_commands.specs.declared.ending.Ending.TheVariants as how
-use Rattle.office_commands.specs.Tables.{HoldsTables}
 use Rattle.office_commands.specs.declared.office_files.FilesLeft.{FilesLeft}
 use Rattle.office_commands.specs.declared.office_files.FilesLeft.TheVariants as files
-
--- tables of an office, of either version, at this state
-pub record IsOfficeAt (tables : Trees) (u : State) : Type 0 where
-  pub edition : Edition
-  pub office : IsOfficeIn edition tables
-  pub sound : IsSound u
-  pub rows : RepresentsRowsIn edition (rows_of u) tables
 
 -- the two files hold an office at this state
 pub record HoldsOfficeAt (image : Image) (u : State) : Type 0 where

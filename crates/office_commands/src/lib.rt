@@ -6,7 +6,9 @@
 //! the records of a CSV file, and `export` writes a register. Each ends with an [`Ending`], what
 //! the program reports to the caller: the exit status, and the line on standard error.
 //! `office_files` opens the office's file, runs a command on it, and closes it; `service` does
-//! so for a service. `next_command` has the law from one command over a file to the next.
+//! so for a service. `next_command` has the law from one command over a file to the next, and
+//! `file_history` that of any number of them. `damage` says what is found where the disk returns
+//! something else than was written.
 #![tactic(auto)]
 
 mod apply;
@@ -16,6 +18,7 @@ mod damage;
 mod ending;
 mod ending_line;
 mod export;
+mod file_history;
 mod init;
 mod next_command;
 mod office_files;
@@ -29,6 +32,7 @@ pub use command::{report_listening, run_on};
 pub use damage::law_of_found_damage;
 pub use ending::Ending;
 pub use ending_line::report;
+pub use file_history::{law_of_each_run, law_of_file_histories};
 pub use init::init_on;
 pub use next_command::{law_of_a_killed_command, law_of_each_command, law_of_the_next_command};
 pub use office_files::{FilesLeft, open_and_apply, open_and_run};

@@ -45,12 +45,8 @@ on_stage stored remains.Begun other known image u stands = stands
 on_stage unmade remains.Begun other known image u (inl held) = inl held
 on_stage unmade remains.Begun other known image u (inr none) = inr (inl none.0, none.1)
 on_stage half_made remains.Begun other known image u stands = absurd known
-on_stage stage remains.Unknown other known image u stands = absurd known
-
--- it is known what was closed only where it is held
-pub held_if_known : (stage : Stage) (it : Remains) → (it ≡ remains.Held) ⊎ (it ≡ remains.Unknown) → IsKnownAt stage it → it ≡ remains.Held
-held_if_known stage it (inl held) known = held
-held_if_known stage it (inr unknown) known = absurd (subst (λ (r : Remains). IsKnownAt stage r) unknown known)
+on_stage stage remains.Unread other known image u stands = absurd known
+on_stage stage remains.Shut other known image u stands = absurd known
 
 module _ {D : Type 0} (g : Ghosts D) (stays : SeenMayStay g) (files it : Files D) where
   -- files that were opened lead on as their connection does

@@ -118,11 +118,7 @@ module _ (size : ℕ) (old new : Image) (trees : Trees) (h : HoldsTables old tre
         ]
       ]
 
-module _ {D : Type 0} {g : Ghosts D} (never : NeverLies g) where
-  -- a store over disks that never lie is clean
-  pub never_dirty : (it : FileStore D g) → IsClean (view it)
-  never_dirty it = no_doubt _ (clean_is it.pool ∙ and_from _ _ (never _) (never _))
-
+module _ {D : Type 0} {g : Ghosts D} where
   -- each image that a crash may leave of a store holds tables that the store allows
   pub leaves_tables : (it : FileStore D g) → IsTrue (view it).is_numbered → AreDatabases (recovers it) → (image : Image) → (state it).may_leave image
       → ∥ ((db : Trees) × recovers it db × HoldsTables image db) ∥₁
@@ -149,7 +145,12 @@ module _ {D : Type 0} {g : Ghosts D} (never : NeverLies g) where
         ),
       ) in r)))
 
-  clean_left : (rest : Leftover D g) → IsCleanLeft rest
+module _ {D : Type 0} {g : Ghosts D} (never : NeverLies g) where
+  -- a store over disks that never lie is clean
+  pub never_dirty : (it : FileStore D g) → IsClean (view it)
+  never_dirty it = no_doubt _ (clean_is it.pool ∙ and_from _ _ (never _) (never _))
+
+  pub clean_left : (rest : Leftover D g) → IsCleanLeft rest
   clean_left (left.Files files) = and_from _ _ (never _) (never _)
   clean_left (left.Unopened now) = clean_is now.pool ∙ and_from _ _ (never _) (never _)
   clean_left (left.Store it) = clean_is it.pool ∙ and_from _ _ (never _) (never _)
@@ -199,9 +200,3 @@ module _ {D : Type 0} (g : Ghosts D) (never : NeverLies g) where
       → (image : Image) → outcomes g it.log it.db image → IsSpared files stage (stage_after stage found) image
   spared files rest it is leaves found same stage known image may =
       subst (λ (r : Remains). IsSpared files stage (stage_after stage r) image) (sym same) (spared_by files rest it is (leaves (clean_left never rest)) stage (subst (λ (r : Remains). IsKnownAt stage r) same known) image may)
-
--- files that were not opened hold nothing new
-pub not_held : {D : Type 0} {g : Ghosts D} (rest : Leftover D g) (found : Remains) → found ≡ remains_of rest → found ≡ remains.Held → ⊥
-not_held (left.Files files) found is held = cc
-not_held (left.Unopened now) found is held = cc
-not_held (left.Store now) found is held = cc

@@ -4,3 +4,4 @@ pub mod LeftTables
 pub mod Leading
 pub mod Nothing
 pub mod Rests
+pub mod Tellings

@@ -39,7 +39,7 @@ unfolding is_sound_list
 none_listed = record { listed = record { tables = tt; indexes = tt; views = tt; owned = tt; named = tt; loads = refl }; guarded = tt }
 
 module _ (s : FileState) (opened : Opens s) (live : IsLive s) (only : (db : Trees) → s.may_leave db → db ≡ s.committed.trees) (stays : s.may_leave s.committed.trees) where
-  same_trees : s.now.trees ≡ s.committed.trees
+  pub same_trees : s.now.trees ≡ s.committed.trees
   same_trees = ap (λ (d : Database). d.trees) opened.clean
 
   left_alone : (db : Trees) → s.may_leave db → db ≡ s.now.trees

@@ -2,3 +2,4 @@ pub mod Fuses
 pub mod Life
 pub mod Standing
 pub mod Tables
+pub mod Told

@@ -47,7 +47,7 @@ StandsAt stage image u =
 abbrev pub remains_of : {D : Type 0} {g : Ghosts D} → Leftover D g → Remains
 remains_of (left.Files files) = remains.Same
 remains_of (left.Unopened files) = remains.Begun
-remains_of (left.Store store) = remains.Unknown
+remains_of (left.Store store) = remains.Unread
 
 -- at that stage it is known for which state the files stand that a stint left
 abbrev pub IsKnownAt : Stage → Remains → Type 0
@@ -56,7 +56,8 @@ IsKnownAt stage remains.Same = Unit {0}
 IsKnownAt stored remains.Begun = Unit {0}
 IsKnownAt unmade remains.Begun = Unit {0}
 IsKnownAt half_made remains.Begun = ⊥
-IsKnownAt stage remains.Unknown = ⊥
+IsKnownAt stage remains.Unread = ⊥
+IsKnownAt stage remains.Shut = ⊥
 
 -- the stage at which they are then
 abbrev pub stage_after : Stage → Remains → Stage
@@ -65,7 +66,8 @@ stage_after stage remains.Same = stage
 stage_after stored remains.Begun = stored
 stage_after unmade remains.Begun = half_made
 stage_after half_made remains.Begun = half_made
-stage_after stage remains.Unknown = stage
+stage_after stage remains.Unread = stage
+stage_after stage remains.Shut = stage
 
 -- whatever a crash leaves of the files stands for a state to which one leads for which they stood, as something that a
 -- crash could leave of them before

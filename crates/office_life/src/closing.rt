@@ -8,6 +8,7 @@ ghost use Rattle.sqlite.specs.Files.{file_state};
 ghost use Rattle.sqlite.specs.State.{HasCleanDisk};
 ghost use Rattle.office_life.specs.Standing.{NeverLies};
 ghost use Rattle.office_life.specs.Tables.{HoldsTables};
+ghost use Rattle.office_life.specs.Told.{IsShut, IsToldClosed};
 
 use crate::reports::Remains;
 use sqlite::{Connection, FileStore, Files};
@@ -16,7 +17,8 @@ use sqlite_trees::store::Store;
 
 /// Copies the log into the database file, if the store is open.
 fn copy<D: Disk>(store: &mut FileStore<D>) -> Remains
-    ensures known { (result ≡ Remains.Held) ⊎ (result ≡ Remains.Unknown) }
+    ensures told { NeverLies D.Disk → (result ≡ Remains.Held)
+        ⊎ ((result ≡ Remains.Shut) × IsShut store.old store.new) }
     ensures fewer { (db : Trees) → recovers store.new db → recovers store.old db }
     ensures numbered { NeverLies D.Disk → result ≡ Remains.Held
         → IsTrue (view store.old).is_numbered → IsTrue (view store.new).is_numbered }
@@ -28,7 +30,7 @@ fn copy<D: Disk>(store: &mut FileStore<D>) -> Remains
         Ok(()) => Remains::Held,
         Err(_) => {
             if store.is_broken() {
-                Remains::Unknown
+                Remains::Shut
             } else {
                 Remains::Held
             }
@@ -39,7 +41,7 @@ fn copy<D: Disk>(store: &mut FileStore<D>) -> Remains
 /// Closes a connection, whatever became of it, and gives its files back.
 pub(crate) fn close<D: Disk + Drop>(conn: Connection<FileStore<D>>) -> (Remains, Files<D>)
     ensures clean { NeverLies D.Disk → HasCleanDisk (file_state conn) }
-    ensures known { (result.0 ≡ Remains.Held) ⊎ (result.0 ≡ Remains.Unknown) }
+    ensures told { NeverLies D.Disk → IsToldClosed D.Disk result.0 result.1 }
     ensures held { NeverLies D.Disk → result.0 ≡ Remains.Held → (image : Image)
         → outcomes D.Disk result.1.log result.1.db image
         → ∥ ((db : Trees) × (file_state conn).may_leave db × HoldsTables image db) ∥₁ }

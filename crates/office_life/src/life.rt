@@ -7,6 +7,7 @@ ghost use Rattle.office_rules.specs.State.{State};
 ghost use Rattle.office_desk.specs.Leaving.{IsAt};
 ghost use Rattle.office_life.specs.Life.{AreKnownFrom, IsAfterLife, LeadsOn, stage_at_end};
 ghost use Rattle.office_life.specs.Standing.{FilesLead, FindsLed, NeverLies, Stage, StandsAt};
+ghost use Rattle.office_life.specs.Told.{AreTold};
 
 use crate::opening::open;
 use crate::reports::{Report, Task};
@@ -45,6 +46,7 @@ fn run<D: Crash + Drop>(
         → AreKnownFrom stage r.0.items
         → FilesLead stage (stage_at_end stage r.0.items) (LeadsOn tasks.now r.0.items)
         (outcomes D.Disk files.log files.db) (outcomes D.Disk r.1.log r.1.db)) }
+    ensures told { NeverLies D.Disk → IfOk result (λ r. AreTold D.Disk files r.0.items r.1) }
 {
     let mut reports = Vec::new(alloc);
     for task in tasks {
@@ -58,8 +60,9 @@ fn run<D: Crash + Drop>(
 
 /// A life of an office in two files, on disks that fail at any call and from then on: stints, one
 /// after another, each ended by a crash. Whatever is left then stands for the state after the acts
-/// that were done: those that were answered, and at most one more in each stint. Where memory for
-/// the reports runs out, the life ends.
+/// that were done: those that were answered, and at most one more in each stint. Nothing is known of
+/// what a stint left only if its opening stopped while it read the tables, or if its closing failed
+/// and shut the store (`AreTold`). Where memory for the reports runs out, the life ends.
 pub fn live<D: Crash + Drop>(
     alloc: Global,
     files: Files<D>,
@@ -73,6 +76,7 @@ pub fn live<D: Crash + Drop>(
         → AreKnownFrom stage r.0.items
         → FilesLead stage (stage_at_end stage r.0.items) (IsAfterLife tasks.now r.0.items)
         (outcomes D.Disk files.log files.db) (outcomes D.Disk r.1.log r.1.db)) }
+    ensures told { NeverLies D.Disk → IfOk result (λ r. AreTold D.Disk files r.0.items r.1) }
 {
     law_of_soundness();
     law_of_fates();

@@ -7,6 +7,7 @@ ghost use Rattle.sqlite.specs.Files.{file_state, image_of};
 ghost use Rattle.sqlite.specs.Held.{state};
 ghost use Rattle.office_rules.specs.State.{State};
 ghost use Rattle.office_life.specs.Standing.{IsKnownAt, NeverLies, RestsAt, Stage, StandsAt, remains_of, stage_after};
+ghost use Rattle.office_life.specs.Told.{IsToldUnopened};
 
 use crate::reports::Remains;
 use sqlite::{Alter, Connection, FileStore, Files, Leftover, Options};
@@ -33,7 +34,7 @@ fn remains_by<D: Disk>(left: &Leftover<D>) -> Remains
     match left {
         Leftover::Files(_) => Remains::Same,
         Leftover::Unopened(_) => Remains::Begun,
-        Leftover::Store(_) => Remains::Unknown,
+        Leftover::Store(_) => Remains::Unread,
     }
 }
 
@@ -47,7 +48,7 @@ pub(crate) fn open<D: Disk + Drop>(
     ensures idle { IfOk result (λ conn. conn.in_transaction ≡ false) }
     ensures found { NeverLies D.Disk → IfOk result (λ conn. (stage : Stage) (s : State)
         → StandsAt stage (image_of D.Disk files) s → RestsAt (file_state conn) s) }
-    ensures known { IfErr result (λ e. (e.0 ≡ Remains.Held) → ⊥) }
+    ensures told { NeverLies D.Disk → IfErr result (λ e. IsToldUnopened D.Disk e.0 files e.1) }
     ensures spared { NeverLies D.Disk → IfErr result (λ e. (stage : Stage) → IsKnownAt stage e.0
         → (image : Image) → outcomes D.Disk e.1.log e.1.db image
         → outcomes D.Disk files.log files.db image ⊎ ((s : State)

@@ -39,9 +39,11 @@ pub enum Remains {
     /// They were not opened. If they held tables they hold these; if they held no database, one may
     /// be half made.
     Begun,
-    /// Nothing: the opening stopped while it read the tables, or the closing failed and shut the
-    /// store.
-    Unknown,
+    /// Nothing: the opening stopped while it read the tables. A store over them stands for the
+    /// tables that they held, but it may number them otherwise.
+    Unread,
+    /// Nothing: the closing failed and shut the store.
+    Shut,
 }
 
 /// What a stint reports.

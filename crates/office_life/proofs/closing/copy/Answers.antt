@@ -1,4 +1,4 @@
-use Rattle.std.proofs.Common.{◌≡◌, ◌∙◌, Bool, true, false, ◌||◌, not, IsTrue, refl, sym, ap}
+use Rattle.std.proofs.Common.{◌≡◌, ◌∙◌, inr, inl, Bool, true, false, ◌||◌, not, IsTrue, refl, sym, ap}
 use Rattle.sqlite_store.specs.FileStore.{view}
 use Rattle.sqlite_trees.specs.View.{View}
 use Rattle.office_life.proofs.LeftTables.{never_dirty}
@@ -9,6 +9,31 @@ open_if_whole : (failed is_open : Bool) → (failed || not is_open) ≡ false �
 open_if_whole failed true whole = refl
 open_if_whole true false whole = cc
 open_if_whole false false whole = cc
+
+closed_if_broken : (is_open : Bool) → (IsTrue is_open → ⊥) → is_open ≡ false
+closed_if_broken true never = absurd (never refl)
+closed_if_broken false never = refl
+
+is_shut : (is_open : Bool) → is_open ≡ false → IsTrue is_open → ⊥
+is_shut is_open shut on = cc
+
+pub returns-then-is_broken-2-clause-told : goal.returns-then-is_broken-2-clause-told
+returns-then-is_broken-2-clause-told g c never =
+    let was = c.args.store.now in
+    let last = c.checkpoint.new.self in
+    let clean = never_dirty never last in
+    let whole : (view was).is_broken ≡ false = sym (c.is_broken.ensures.shown (never_dirty never was)) ∙ c.if-is_broken.false in
+    let broken : (view last).is_broken ≡ true = sym (c.is_broken-in-Err.ensures.shown clean) ∙ c.if-is_broken-2.true in
+    let was_open = open_if_whole was.has_failed (view was).is_open whole in
+    let shut : (view last).is_open ≡ false = closed_if_broken (view last).is_open (λ on. let same = ap (λ (v : View). v.is_broken) (c.checkpoint.ensures.same on) in let no : true ≡ false = sym broken ∙ same ∙ whole in cc) in
+    inr (
+      refl,
+      record {
+        was_open = was_open;
+        shut = shut;
+        failed = elim (c.checkpoint.ensures.quiet.closes clean was_open) [ inl on ↦ absurd (is_shut (view last).is_open shut on) | inr more ↦ more ];
+      },
+    )
 
 pub returns-in-Ok-clause-numbered : goal.returns-in-Ok-clause-numbered
 returns-in-Ok-clause-numbered g c never held numbered =

@@ -1,4 +1,4 @@
-use Rattle.std.proofs.Common.{◌≡◌, ◌∷◌, ◌++◌, List, [], sym, subst, subst₂, take, rules}
+use Rattle.std.proofs.Common.{◌≡◌, ◌∷◌, ◌++◌, List, [], refl, sym, subst, subst₂, take, rules}
 use Rattle.sqlite_wal.specs.Files.{outcomes}
 use Rattle.std.proofs.lemmas.List.{take_all}
 use Rattle.office_life.specs.Life.{AreKnownFrom, LeadsOn, stage_at_end}
@@ -6,6 +6,8 @@ use Rattle.office_life.specs.Standing.{FilesLead}
 use Rattle.office_life.specs.declared.reports.Report.{Report}
 use Rattle.office_life.specs.declared.reports.Task.{Task}
 use Rattle.office_life.proofs.Leading.{began_at, known_parts, lived_on, one_longer}
+use Rattle.office_life.specs.Told.{AreTold}
+use Rattle.office_life.proofs.Tellings.{told_on}
 use Rattle.office_life.proofs.life.run.Goals as goal
 
 pub loop-task-init : goal.loop-task-init
@@ -15,6 +17,7 @@ loop-task-init g c = record {
   led = λ never stage known.
       let old = outcomes g.D.Disk c.args.files.log c.args.files.db in
       subst (λ (xs : List Report). FilesLead stage (stage_at_end stage xs) (LeadsOn [] xs) old old) (sym c.new-reports.ensures.items) (began_at stage old);
+  told = λ never. subst (λ (xs : List Report). AreTold g.D.Disk c.args.files xs c.args.files) (sym c.new-reports.ensures.items) refl;
 }
 
 pub loop-task-preserved : goal.loop-task-preserved
@@ -34,8 +37,14 @@ loop-task-preserved g c = record {
       let mid = outcomes g.D.Disk c.loop-task.files.log c.loop-task.files.db in
       let new = outcomes g.D.Disk c.stint-report.result.1.log c.stint-report.result.1.db in
       let on =
-      lived_on stage tasks reports asked it old mid new later (c.loop-task.invariant.led never stage parts.0) (c.stint-report.ensures never (stage_at_end stage reports) parts.1) c.crash.ensures.fewer in
+      lived_on stage tasks reports asked it old mid new later (c.loop-task.invariant.led never stage parts.0) (c.stint-report.ensures.led never (stage_at_end stage reports) parts.1) c.crash.ensures.fewer in
       subst₂ (λ (xs : List Task) (ys : List Report). FilesLead stage (stage_at_end stage ys) (LeadsOn xs ys) old later) (sym more) (sym now) on;
+  told = λ never.
+      let it = c.stint-report.result.0 in
+      let reports = c.loop-task.reports.items in
+      let now : c.push.new.self.items ≡ reports ++ it ∷ [] = search rules in
+      subst (λ (xs : List Report). AreTold g.D.Disk c.args.files xs c.crash.new.files) (sym now)
+      (told_on g.D.Disk reports it c.args.files c.loop-task.files c.stint-report.result.1 c.crash.new.files (c.loop-task.invariant.told never) (c.stint-report.ensures.told never) c.crash.ensures.fewer);
 }
 
 pub returns-clause-led : goal.returns-clause-led

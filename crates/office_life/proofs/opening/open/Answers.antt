@@ -1,5 +1,6 @@
-use Rattle.office_life.proofs.LeftTables.{never_dirty, not_held, spared}
+use Rattle.office_life.proofs.LeftTables.{never_dirty, spared}
 use Rattle.office_life.proofs.Rests.{rests_at}
+use Rattle.office_life.proofs.Tellings.{told_unopened}
 use Rattle.sqlite.specs.Files.{file_state, image_of}
 use Rattle.office_life.proofs.opening.open.Goals as goal
 
@@ -15,8 +16,8 @@ returns-in-Ok-clause-found g c never stage s stands =
     let law = c.law_of_the_last_commit.ensures in
     rests_at (file_state conn) opened.0 opened.1 (law.only opened.0.is_open) (law.stays opened.0.is_open) (image_of g.D.Disk c.args.files) found.holds found.reads stage s stands
 
-pub returns-in-Err-clause-known : goal.returns-in-Err-clause-known
-returns-in-Err-clause-known g c = not_held _ _ c.remains_by-remains.ensures
+pub returns-in-Err-clause-told : goal.returns-in-Err-clause-told
+returns-in-Err-clause-told g c never = told_unopened g.D.Disk never c.args.files _ _ c.into_files.ensures c.in-Err.ensures.unharmed _ c.remains_by-remains.ensures
 
 pub returns-in-Err-clause-spared : goal.returns-in-Err-clause-spared
 returns-in-Err-clause-spared g c never =

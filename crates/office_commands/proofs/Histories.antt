@@ -1,0 +1,183 @@
+-- What an office's files stand for after any number of runs of the program, from no file on.
+use Rattle.std.proofs.Common.{◌≡◌, ◌⊎◌, ◌++◌, ◌∷◌, [], inl, inr, ℕ, IsTrue, List, Option, None, Some, refl, sym, subst, arith}
+use Rattle.std.proofs.Math.Logic.{∥∥₁_elim, ∥∥₁_map}
+use Rattle.sqlite_catalog.specs.Listing.{IsSound as IsSoundDatabase}
+use Rattle.sqlite_disk.specs.declared.Disk.{Ghosts}
+use Rattle.sqlite_disk.specs.declared.Files.{Files}
+use Rattle.sqlite_store.specs.FileStore.{recovers, view}
+use Rattle.sqlite_store.specs.declared.store.FileStore.{FileStore}
+use Rattle.sqlite_trees.specs.Tree.{Trees}
+use Rattle.sqlite_trees.specs.View.{IsClean}
+use Rattle.sqlite_wal.specs.Reads.{AreClean}
+use Rattle.sqlite_wal.specs.Recovery.{Image}
+use Rattle.sqlite.specs.Files.{IsEmpty, file_state, over_files}
+use Rattle.sqlite.specs.Held.{AreDatabases, Held}
+use Rattle.sqlite.specs.State.{State as FileState, HasCleanDisk}
+use Rattle.sqlite.specs.declared.file.Leftover.{Leftover}
+use Rattle.sqlite.specs.declared.file.Leftover.TheVariants as leftover
+use Rattle.office_rules.specs.Rows.{rows_of}
+use Rattle.office_rules.specs.Sound.{IsSound}
+use Rattle.office_rules.specs.State.{State, empty_state}
+use Rattle.office_store.specs.RepresentsRows.{RepresentsRowsIn}
+use Rattle.office_life.specs.Standing.{IsKnownAt, RestsAt, Stage, StandsAt, half_made, remains_of, stage_after, stored, unmade}
+use Rattle.office_life.specs.declared.reports.Remains.TheVariants as remains
+use Rattle.office_life.specs.Tables.{HoldsTables}
+use Rattle.office_life.proofs.LeftTables.{database_of, leaves_tables}
+use Rattle.office_life.proofs.Nothing.{finds_nothing}
+use Rattle.office_commands.specs.FileHistory.{FileHistory, IsFoundNext, IsFoundOf, IsLeftAt, IsLeftKilled, ProgramRun, RunLeads, StateHistory, WasKilled, WasRun, began, led, ran_command, ran_service, remains_left, stayed, went_on}
+use Rattle.office_commands.specs.Files.{EndsOver, IsClosedCopy, IsLeftOf, IsOpenedFrom, IsUnclosed, IsUnopenedLeft}
+use Rattle.office_commands.specs.Running.{RunEnds}
+use Rattle.office_commands.specs.Serving.{ServiceEnds}
+use Rattle.office_commands.specs.Tables.{KeepsTables, SparesTables}
+use Rattle.office_commands.specs.declared.office_files.FilesLeft.{FilesLeft}
+use Rattle.office_commands.specs.declared.office_files.FilesLeft.TheVariants as files
+use Rattle.office_commands.proofs.FromNoFile.{IsOfficeOrBefore, command_from, service_from, tables_at}
+use Rattle.office_commands.proofs.NextStates.{IsEnded, IsOneDatabase, StaySound}
+
+-- so a run ended over a connection
+abbrev EndedSo : {D : Type 0} {g : Ghosts D} → ProgramRun → Held (FileStore D g) → Held (FileStore D g) → Type 0
+EndedSo (ran_command order text written after ending) was last = RunEnds over_files order (Some text) was last written after ending
+EndedSo (ran_service port count written after ending) was last = ServiceEnds over_files port count was last written after ending
+
+-- ---- files that were not opened
+
+-- what was kept stands for the same state
+kept_at : (image next : Image) → KeepsTables image next → (stage : Stage) (s : State) → IsKnownAt stage remains.Begun → StandsAt stage image s → ∥ StandsAt (stage_after stage remains.Begun) next s ∥₁
+kept_at image next kept stage s known (inl (db, held, at)) = ∣ inl (db, kept.held db held, at) ∣₁
+kept_at image next kept stored s known (inr none) = absurd none.0
+kept_at image next kept unmade s known (inr none) = elim (kept.none none.0) [
+  | inl nothing ↦ ∣ inr (inl nothing, none.1) ∣₁
+  | inr empty ↦ ∥∥₁_map empty (λ begun. inr (inr begun, none.1))
+]
+kept_at image next kept half_made s known (inr none) = absurd known
+
+module _ {D : Type 0} {g : Ghosts D} (image next : Image) (stage : Stage) (s : State) (stands : StandsAt stage image s) where
+  spared_at : (rest : Leftover D g) → SparesTables image rest → IsKnownAt stage (remains_of rest) → IsFoundOf rest next → ∥ StandsAt (stage_after stage (remains_of rest)) next s ∥₁
+  spared_at (leftover.Files it) spared known (clean, may) = ∣ subst (λ (i : Image). StandsAt stage i s) (sym (spared clean next may)) stands ∣₁
+  spared_at (leftover.Unopened it) spared known (clean, may) = kept_at image next (spared clean next may) stage s known stands
+  spared_at (leftover.Store it) spared known found = absurd found
+
+  unopened_at : (left : FilesLeft D g) → IsUnopenedLeft image left → IsKnownAt stage (remains_left left) → IsFoundNext left next → ∥ StandsAt (stage_after stage (remains_left left)) next s ∥₁
+  unopened_at (files.Unopened None) spared known found = absurd found
+  unopened_at (files.Unopened (Some it)) spared known found = spared_at it spared known found
+  unopened_at (files.Closed it) none known found = absurd none
+  unopened_at (files.Unclosed store) none known found = absurd none
+
+-- ---- files that were opened
+
+-- the connection is at rest at the state for which they stood
+rests_from : {D : Type 0} {g : Ghosts D} (image : Image) (was last : Held (FileStore D g)) → IsOpenedFrom image was last → HasCleanDisk (file_state last) → (stage : Stage) (s : State) → StandsAt stage image s → RestsAt (file_state was) s
+rests_from image was last it clean stage s (inl (db, held, inl office)) =
+    let whole = database_of image db held in
+    let ed = office.edition in
+    let at = it.rest clean ed db (record { held = ∣ whole ∣₁; office = office.office }) in
+    inl (ed, at.0, office.sound, subst (RepresentsRowsIn ed (rows_of s)) (sym at.1) office.rows)
+rests_from image was last it clean stage s (inl (db, held, inr none)) =
+    let empty = subst IsEmpty (sym (it.holds clean db (database_of image db held))) none.0 in inr (it.blank clean empty, empty, none.1)
+rests_from image was last it clean stored s (inr none) = absurd none.0
+rests_from image was last it clean unmade s (inr none) = let empty = finds_nothing image _ none.0 (it.found clean) in inr (it.blank clean empty, empty, none.1)
+rests_from image was last it clean half_made s (inr (inl nothing, is)) = let empty = finds_nothing image _ nothing (it.found clean) in inr (it.blank clean empty, empty, is)
+rests_from image was last it clean half_made s (inr (inr begun, is)) = let empty = subst IsEmpty (sym (it.holds clean begun.0 begun.1)) begun.2 in inr (it.blank clean empty, empty, is)
+
+module _ {D : Type 0} {g : Ghosts D} (was last : Held (FileStore D g)) (Is : State → Type 0)
+    (leaves : HasCleanDisk (file_state last) → (db : Trees) → (file_state last).may_leave db → (u : State) × Is u × IsOfficeOrBefore (file_state was) db u) (next : Image) where
+  abbrev GoesOn : Type 0
+  GoesOn = ∥ ((u : State) × Is u × StandsAt stored next u) ∥₁
+
+  -- tables that a crash leaves of the connection, which the files hold
+  goes_on : HasCleanDisk (file_state last) → (db : Trees) → (file_state last).may_leave db → HoldsTables next db → (u : State) × Is u × StandsAt stored next u
+  goes_on clean db may held = let at = leaves clean db may in (at.0, at.1, inl (db, held, tables_at (file_state was) db at.0 at.2))
+
+  closed_at : (it : Files D) → IsClosedCopy last it → (file_state last).may_leave (file_state last).committed.trees → ∥ HoldsTables next (file_state last).committed.trees ∥₁ → GoesOn
+  closed_at it copy stays held = ∥∥₁_map held (λ (h : HoldsTables next (file_state last).committed.trees). goes_on copy.copied.was_clean (file_state last).committed.trees stays h)
+
+  unclosed_at : (store : FileStore D g) → IsUnclosed last store → IsFoundNext {g = g} (files.Unclosed store) next → GoesOn
+  unclosed_at store it (clean, known, may) =
+      let closed = it.closed in
+      let numbered : IsTrue (view store).is_numbered = elim known [ inl on ↦ it.numbered clean on | inr is ↦ is ] in
+      let doubted = closed.quiet.clean in
+      let was_clean : HasCleanDisk (file_state last) = omega (arith, doubted, clean) in
+      ∥∥₁_map (leaves_tables store numbered (closed.sound clean) next may) (λ (db : (x : Trees) × recovers store x × HoldsTables next x). goes_on was_clean db.0 (closed.quiet.outcomes db.0 db.1) db.2)
+
+  pub left_at : (stays : IsTrue (file_state last).is_open → (file_state last).may_leave (file_state last).committed.trees) (left : FilesLeft D g) → IsLeftOf last left → IsFoundNext left next → GoesOn
+  left_at stays (files.Unopened rest) it found = absurd it
+  left_at stays (files.Closed it) copied (clean, may) = let copy = copied clean in closed_at it copy (stays copy.copied.was_open) (copy.left next may)
+  left_at stays (files.Unclosed store) it found = unclosed_at store it found
+
+  -- where the process was killed
+  pub killed_at : IsLeftKilled last next → AreDatabases (recovers last.store) → GoesOn
+  killed_at it sound = ∥∥₁_map (leaves_tables last.store it.numbered sound next it.left) (λ (db : (x : Trees) × recovers last.store x × HoldsTables next x). goes_on it.clean db.0 db.1 db.2)
+
+-- the database at which the connection was at rest is sound
+sound_before : (old : FileState) (s : State) → RestsAt old s → IsSoundDatabase old.now.schema old.now.trees
+sound_before old s (inl (ed, rest, sound, rows)) = rest.office.has.database
+sound_before old s (inr (blank, none, is)) = blank.bare.has.database
+
+-- and so is each that a crash leaves
+are_databases : {D : Type 0} {g : Ghosts D} (was last : Held (FileStore D g)) (s : State) (Is : State → Type 0) → RestsAt (file_state was) s
+    → ((db : Trees) → (file_state last).may_leave db → (u : State) × Is u × IsOfficeOrBefore (file_state was) db u) → AreDatabases (recovers last.store)
+are_databases was last s Is rests leaves db may = elim (leaves db may).2 [
+  | inl office ↦ (office.office.0, office.office.1.has.database)
+  | inr before ↦
+      let old = file_state was in (old.now.schema, subst (λ (t : Trees). IsSoundDatabase old.now.schema t) (sym before.0) (sound_before old s rests))
+]
+
+-- ---- one run
+
+-- files that were not opened are left at the same state
+stays_at : (run : ProgramRun) (s : State) → IsLeftAt run s s
+stays_at (ran_command order text written after ending) s = inl refl
+stays_at (ran_service port count written after ending) s = inl refl
+
+module _ (one : IsOneDatabase) (stay : StaySound) (empty : IsSound empty_state) (ends : IsEnded) {D : Type 0} {g : Ghosts D} where
+  -- where a run leaves an office, whatever a crash leaves of its connection
+  leaves_so : (run : ProgramRun) (was last : Held (FileStore D g)) (s : State) → RestsAt (file_state was) s → HasCleanDisk (file_state last) → EndedSo run was last
+      → (db : Trees) → (file_state last).may_leave db → (u : State) × IsLeftAt run s u × IsOfficeOrBefore (file_state was) db u
+  leaves_so (ran_command order text written after ending) was last s rests clean ended db may =
+      let at = command_from one stay empty ends over_files was last s clean rests order text written after ending ended db may in (at.0, inr at.1, at.2)
+  leaves_so (ran_service port count written after ending) was last s rests clean ended db may =
+      let at = service_from one stay empty ends over_files was last s clean rests port count written after ending ended db may in (at.0, inr at.1, at.2)
+
+  module _ (run : ProgramRun) (stage : Stage) (image next : Image) where
+    not_opened : (left : FilesLeft D g) → IsUnopenedLeft image left → IsKnownAt stage (remains_left left) → IsFoundNext left next → RunLeads run stage image (stage_after stage (remains_left left)) next
+    not_opened left spared known found s stands = ∥∥₁_map (unopened_at image next stage s stands left spared known found) (λ (at : StandsAt (stage_after stage (remains_left left)) next s). (s, stays_at run s, at))
+
+    -- the stage is that of files that hold tables
+    opened : (last : Held (FileStore D g)) (left : FilesLeft D g) → EndsOver left image (EndedSo run) last → IsLeftOf last left → IsFoundNext left next → RunLeads run stage image stored next
+    opened last left over is_left found s stands =
+        let rests = λ (clean : HasCleanDisk (file_state last)). rests_from image over.was last over.opened clean stage s stands in
+        left_at over.was last (IsLeftAt run s) (λ clean. leaves_so run over.was last s (rests clean) clean over.ends) next over.stays left is_left found
+
+    after_closing : (left : FilesLeft D g) (last : Held (FileStore D g)) → IsLeftOf last left → stage_after stage (remains_left left) ≡ stored
+    after_closing (files.Unopened rest) last it = absurd it
+    after_closing (files.Closed it) last copied = refl
+    after_closing (files.Unclosed store) last it = refl
+
+    ended : (left : FilesLeft D g) → IsUnopenedLeft image left ⊎ ((last : Held (FileStore D g)) × EndsOver left image (EndedSo run) last × IsLeftOf last left) → IsKnownAt stage (remains_left left) → IsFoundNext left next
+        → RunLeads run stage image (stage_after stage (remains_left left)) next
+    ended left (inl spared) known found = not_opened left spared known found
+    ended left (inr (last, over, is_left)) known found = subst (λ (is : Stage). RunLeads run stage image is next) (sym (after_closing left last is_left)) (opened last left over is_left found)
+
+    killed : (last : Held (FileStore D g)) → EndsOver (files.Unopened None) image (EndedSo run) last → IsLeftKilled last next → RunLeads run stage image stored next
+    killed last over it s stands =
+        let rests = rests_from image over.was last over.opened it.clean stage s stands in
+        let leaves = leaves_so run over.was last s rests it.clean over.ends in
+        killed_at over.was last (IsLeftAt run s) (λ clean. leaves) next it (are_databases over.was last s (IsLeftAt run s) rests leaves)
+
+  pub runs_lead : (run : ProgramRun) (stage : Stage) (image next : Image) (left : FilesLeft D g) → WasRun run image left → IsKnownAt stage (remains_left left) → IsFoundNext left next
+      → RunLeads run stage image (stage_after stage (remains_left left)) next
+  runs_lead (ran_command order text written after ending) stage image next left (inl none) = ended (ran_command order text written after ending) stage image next left (inl none.1)
+  runs_lead (ran_command order text written after ending) stage image next left (inr over) = ended (ran_command order text written after ending) stage image next left (inr over)
+  runs_lead (ran_service port count written after ending) stage image next left (inl none) = ended (ran_service port count written after ending) stage image next left (inl none.1)
+  runs_lead (ran_service port count written after ending) stage image next left (inr over) = ended (ran_service port count written after ending) stage image next left (inr over)
+
+  pub killed_lead : (run : ProgramRun) (stage : Stage) (image next : Image) (last : Held (FileStore D g)) → WasKilled run image last → IsLeftKilled last next → RunLeads run stage image stored next
+  killed_lead (ran_command order text written after ending) stage image next last over = killed (ran_command order text written after ending) stage image next last over
+  killed_lead (ran_service port count written after ending) stage image next last over = killed (ran_service port count written after ending) stage image next last over
+
+-- ---- any number of runs
+
+pub files_follow : (start : Stage) (first : Image) (s : State) (runs : List ProgramRun) (stage : Stage) (image : Image) → StandsAt start first s → FileHistory start first runs stage image → ∥ ((u : State) × StateHistory s runs u × StandsAt stage image u) ∥₁
+files_follow start first s runs stage image stands (began) = ∣ (s, stayed, stands) ∣₁
+files_follow start first s runs stage image stands (went_on before was held run is next history leads) =
+    ∥∥₁_elim (files_follow start first s before was held stands history) squash₁ (λ (t : (x : State) × StateHistory s before x × StandsAt was held x). ∥∥₁_map (leads t.0 t.2) (λ (u : (x : State) × IsLeftAt run t.0 x × StandsAt is next x). (u.0, led before run t.0 u.0 t.1 u.1, u.2)))
