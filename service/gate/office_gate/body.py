@@ -4,11 +4,13 @@ So no spelling means one thing to the gate and another to the office: escapes, w
 there are gone, or refused, before anybody decides.
 """
 import json
-from typing import NoReturn
+from typing import Any, NoReturn
 
 from office_gate.errors import Answered
 
 MOST_BYTES = 1_048_576
+Json = dict[str, Any]
+"""an object of JSON, as an act, or a line of the journal"""
 
 
 class Number(str):
@@ -43,7 +45,7 @@ def text_of(value: object) -> str:
     return json.dumps(value, ensure_ascii=False)
 
 
-def acts_of(body: bytes) -> list[dict]:
+def acts_of(body: bytes) -> list[Json]:
     """Reads a list of acts. What is no list is refused here; of a list each place has to be an object with a kind."""
     try:
         acts = value_of(body.decode())
@@ -58,7 +60,7 @@ def acts_of(body: bytes) -> list[dict]:
     return acts
 
 
-def bytes_of(acts: list[dict]) -> bytes:
+def bytes_of(acts: list[Json]) -> bytes:
     """Writes a list as the office gets it."""
     data = text_of(acts).encode()
     if len(data) > MOST_BYTES:
@@ -66,7 +68,7 @@ def bytes_of(acts: list[dict]) -> bytes:
     return data
 
 
-def number_in(act: dict, name: str) -> int | None:
+def number_in(act: Json, name: str) -> int | None:
     """Returns the number of a thing that a member names, or None if it names none."""
     value = act.get(name)
     if isinstance(value, Number) and value.isdigit() and len(value) <= 10:
