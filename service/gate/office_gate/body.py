@@ -4,6 +4,7 @@ So no spelling means one thing to the gate and another to the office: escapes, w
 there are gone, or refused, before anybody decides.
 """
 import json
+from dataclasses import dataclass
 from typing import Any, NoReturn
 
 from office_gate.errors import Answered
@@ -13,8 +14,16 @@ Json = dict[str, Any]
 """an object of JSON, as an act, or a line of the journal"""
 
 
-class Number(str):
-    """A number as it was written. Whether it is a good one the office decides."""
+@dataclass(frozen=True)
+class Number:
+    """A number as it was written, if Python would write it otherwise. Whether it is a good one the office decides."""
+
+    text: str
+
+
+def number(text: str) -> int | Number:
+    """Reads a whole number. Of one that is too long to be any the text is kept, and of -0, which has a sign."""
+    return int(text) if len(text) < 16 and text != "-0" else Number(text)
 
 
 def no_constant(_: str) -> NoReturn:
@@ -31,17 +40,26 @@ def members(pairs: list[tuple[str, object]]) -> dict[str, object]:
 
 def value_of(text: str) -> object:
     """Reads JSON. ValueError and RecursionError say that it is none, or too deep."""
-    return json.loads(text, parse_int=Number, parse_float=Number, parse_constant=no_constant, object_pairs_hook=members)
+    return json.loads(text, parse_int=number, parse_float=Number, parse_constant=no_constant, object_pairs_hook=members)
 
 
 def text_of(value: object) -> str:
     """Writes what was read, without white space."""
+    try:
+        return json.dumps(value, ensure_ascii=False, separators=(",", ":"))
+    except TypeError:
+        return text_with_numbers(value)
+
+
+def text_with_numbers(value: object) -> str:
+    """The same of what has numbers that only their text writes as they were."""
     if isinstance(value, Number):
-        return str(value)
+        return value.text
     if isinstance(value, dict):
-        return "{" + ",".join(f"{text_of(name)}:{text_of(it)}" for name, it in value.items()) + "}"
+        return "{" + ",".join(f"{json.dumps(name, ensure_ascii=False)}:{text_with_numbers(it)}"
+                              for name, it in value.items()) + "}"
     if isinstance(value, list):
-        return "[" + ",".join(map(text_of, value)) + "]"
+        return "[" + ",".join(map(text_with_numbers, value)) + "]"
     return json.dumps(value, ensure_ascii=False)
 
 
@@ -71,6 +89,4 @@ def bytes_of(acts: list[Json]) -> bytes:
 def number_in(act: Json, name: str) -> int | None:
     """Returns the number of a thing that a member names, or None if it names none."""
     value = act.get(name)
-    if isinstance(value, Number) and value.isdigit() and len(value) <= 10:
-        return int(value)
-    return None
+    return value if type(value) is int and 0 <= value < 10**10 else None

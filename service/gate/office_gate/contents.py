@@ -10,7 +10,7 @@ import os
 import subprocess
 from pathlib import Path
 
-from office_gate.body import Json, text_of
+from office_gate.body import Json, Number, text_of
 from office_gate.chain import digest
 from office_gate.errors import say
 
@@ -95,7 +95,8 @@ def noted(acts: list[Json]) -> tuple[list[Json], list[bytes]]:
 
 
 def is_short(value: object) -> bool:
-    return value is None or isinstance(value, bool) or isinstance(value, str) and len(value) <= LONGEST
+    text = value.text if isinstance(value, Number) else value
+    return value is None or isinstance(value, int) or isinstance(text, str) and len(text) <= LONGEST
 
 
 def shortened(value: object) -> dict[str, object]:

@@ -45,6 +45,11 @@ def sign(person: Person, acts: list[Json]) -> None:
         act["by"] = person.signs
 
 
+def signed(noted: list[Json], acts: list[Json]) -> list[Json]:
+    """Returns acts as the journal has them, with the names that were put in."""
+    return [it | {"by": act["by"]} if act["act"] in SIGNED else it for it, act in zip(noted, acts)]
+
+
 def days(access: Access, person: Person, acts: list[Json]) -> list[int]:
     """Refuses a day after today without the right to it. Returns the places of acts with a day before today."""
     now, earlier = today(access), []

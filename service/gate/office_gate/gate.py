@@ -94,7 +94,8 @@ class Gate:
         entry = self.head(asked, "POST /acts") | {"body": {"bytes": len(data), "sha256": digest(data)}}
         try:
             acts = body.acts_of(data)
-            entry["acts"], _ = noted(acts)
+            plain, parts = noted(acts)
+            entry["acts"] = plain
             deciding.kinds(asked.person, acts)
             deciding.sign(asked.person, acts)
             if earlier := deciding.days(self.access, asked.person, acts):
@@ -104,7 +105,7 @@ class Gate:
             sent = body.bytes_of(acts)
             async with self.acting.turn(asked.person.name):
                 await self.judge(asked, acts)
-                entry["acts"], parts = noted(acts)
+                entry["acts"] = deciding.signed(plain, acts)
                 if parts:
                     entry["contents"] = await self.journal.in_thread(self.journal.contents.add, parts)
                 answer, written = await self.send(asked, entry, "/acts", sent)

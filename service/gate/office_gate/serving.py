@@ -18,7 +18,7 @@ from office_gate.office import Answer
 from office_gate.reading import Reading
 
 BODY_SECONDS = 60
-HEAD_SECONDS = 30
+HEAD_SECONDS = 10
 """nginx sends a head at once, so a connection that brings none is nobody's; it would hold up a stop"""
 POSTS = ("/acts", "/run/resume")
 MAY = "/may"
@@ -80,7 +80,11 @@ class Front(web.Server):
         try:
             return await asyncio.shield(one)
         except Answered as refused:
-            return reply(refused.status, refused.body())
+            back = reply(refused.status, refused.body())
+            if request.raw_path == MAY:
+                # nginx passes on no body of what it asked, so it takes the word
+                back.headers["Office-Word"] = refused.word
+            return back
         except ConnectionError:
             raise
         except Exception:

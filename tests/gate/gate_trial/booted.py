@@ -26,8 +26,9 @@ def section(page: str, heading: str) -> str:
 def commands(page: str, heading: str) -> list[str]:
     """Lists the blocks of commands under a heading, without those that install packages, and what commands print."""
     blocks = re.findall(r"(?:^    .*\n)+", section(page, heading), re.MULTILINE)
-    plain = ["".join(it[4:] for it in block.splitlines(keepends=True)) for block in blocks]
-    return [it for it in plain if not it.startswith(("apt-get ", "$ ", "{"))]
+    plain = ["".join(it[4:] for it in block.splitlines(keepends=True) if not it.startswith("    apt-get "))
+             for block in blocks]
+    return [it for it in plain if it and not it.startswith(("$ ", "{"))]
 
 
 class Machine:

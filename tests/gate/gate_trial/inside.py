@@ -1,4 +1,4 @@
-"""Clients of the trial within its machine: inside.py PLACE [SECONDS] asks through nginx until the file PLACE is there.
+"""Clients of the trial within its machine: inside.py PLACE asks through nginx until the file PLACE is there.
 
 Three names read, three act, each one request after another, and each request has a connection of its own. It prints how
 often each status came, 0 for none at all, the slowest answer in seconds, and the codes of the holds that were placed.
@@ -8,6 +8,7 @@ import collections
 import http.client
 import json
 import pathlib
+import socket
 import ssl
 import sys
 import threading
@@ -19,9 +20,12 @@ CERTIFICATE = "/etc/nginx/office/office.crt"
 
 def ask(name: str, method: str, path: str, body: object = None) -> tuple[int, bytes]:
     """Asks once; 0 says that no whole answer came."""
-    link = http.client.HTTPSConnection("localhost", timeout=200, context=ssl.create_default_context(cafile=CERTIFICATE))
+    link = http.client.HTTPSConnection("localhost")
     word = base64.b64encode(f"{name}:{PASSWORD}".encode()).decode()
     try:
+        # a small Debian does not know the name localhost
+        plain = socket.create_connection(("127.0.0.1", 443), 200)
+        link.sock = ssl.create_default_context(cafile=CERTIFICATE).wrap_socket(plain, server_hostname="localhost")
         link.request(method, path, None if body is None else json.dumps(body),
                      {"Authorization": f"Basic {word}", "Origin": "https://localhost"})
         answer = link.getresponse()

@@ -38,6 +38,7 @@ def tried(folder: pathlib.Path) -> None:
         rotated(it)
         compared(it)
         recovered(it)
+        it.run("chattr -a /var/log/office/*")
     shutil.rmtree(folder / "machine", ignore_errors=True)
 
 
@@ -96,9 +97,11 @@ def apart(it: Machine) -> None:
     for user, wanted in (("root", False), ("www-data", False), ("nobody", False), ("office-gate", True)):
         status, said = it.run(f"runuser -u {user} -- {ask}")
         same(f"{user} reaches the port of the office", status == 0 and '"number":1' in said, wanted)
-    for place in ("/var/lib/office", "/var/lib/office-backups", "/root", "/home"):
-        said = it.run(f"nsenter -t $(systemctl show -P MainPID {GATE}) -m ls -A {place}")[1]
-        judge(f"the gate sees nothing of {place}", not said or "cannot" in said, said)
+    seen = (f"nsenter -t $(systemctl show -P MainPID {GATE}) -m setpriv --reuid office-gate --regid office-gate "
+            "--groups www-data find {} -type f -readable 2>/dev/null || true")
+    for place in ("/var/lib/office", "/var/lib/office-backups", "/root", "/var/log/office/acts.log"):
+        same(f"the gate reads nothing of {place}", it.run(seen.format(place))[1], "")
+    judge("but its journal", JOURNAL in it.run(seen.format("/var/log/office"))[1])
     same("modes", it.run(f"stat -c '%U %G %a' /run/office-gate/city/socket {JOURNAL} /var/lib/office-gate/city "
                          "/var/lib/office-gate/city/contents /etc/office/city.token /etc/nginx/office/gate_tokens.conf"
                          )[1].splitlines(),
