@@ -78,12 +78,17 @@ class Access:
     journals_readings: bool = True
 
     def person(self, name: str) -> Person:
-        """Returns whom a name is; one that the settings do not name has the rights of `*`, if there are any."""
+        """Returns whom a name is; one that the settings do not name has the rights of `*`, if there are any.
+
+        It has none if the name is the text that somebody else signs.
+        """
         known = self.people.get(name)
         if known:
             return known
         other = self.others
-        return Person(name, name, other.roles, other.grants) if other else Person(name, name)
+        if other is None or any(name == it.signs for it in self.people.values()):
+            return Person(name, name)
+        return Person(name, name, other.roles, other.grants)
 
     def host(self) -> str:
         return self.site.split("://", 1)[1]

@@ -4,15 +4,26 @@ So no spelling means one thing to the gate and another to the office: escapes, w
 there are gone, or refused, before anybody decides.
 """
 import json
-from typing import NoReturn
+from dataclasses import dataclass
+from typing import Any, NoReturn
 
 from office_gate.errors import Answered
 
 MOST_BYTES = 1_048_576
+Json = dict[str, Any]
+"""an object of JSON, as an act, or a line of the journal"""
 
 
-class Number(str):
-    """A number as it was written. Whether it is a good one the office decides."""
+@dataclass(frozen=True)
+class Number:
+    """A number as it was written, if Python would write it otherwise. Whether it is a good one the office decides."""
+
+    text: str
+
+
+def number(text: str) -> int | Number:
+    """Reads a whole number. Of one that is too long to be any the text is kept, and of -0, which has a sign."""
+    return int(text) if len(text) < 16 and text != "-0" else Number(text)
 
 
 def no_constant(_: str) -> NoReturn:
@@ -29,21 +40,30 @@ def members(pairs: list[tuple[str, object]]) -> dict[str, object]:
 
 def value_of(text: str) -> object:
     """Reads JSON. ValueError and RecursionError say that it is none, or too deep."""
-    return json.loads(text, parse_int=Number, parse_float=Number, parse_constant=no_constant, object_pairs_hook=members)
+    return json.loads(text, parse_int=number, parse_float=Number, parse_constant=no_constant, object_pairs_hook=members)
 
 
 def text_of(value: object) -> str:
     """Writes what was read, without white space."""
+    try:
+        return json.dumps(value, ensure_ascii=False, separators=(",", ":"))
+    except TypeError:
+        return text_with_numbers(value)
+
+
+def text_with_numbers(value: object) -> str:
+    """The same of what has numbers that only their text writes as they were."""
     if isinstance(value, Number):
-        return str(value)
+        return value.text
     if isinstance(value, dict):
-        return "{" + ",".join(f"{text_of(name)}:{text_of(it)}" for name, it in value.items()) + "}"
+        return "{" + ",".join(f"{json.dumps(name, ensure_ascii=False)}:{text_with_numbers(it)}"
+                              for name, it in value.items()) + "}"
     if isinstance(value, list):
-        return "[" + ",".join(map(text_of, value)) + "]"
+        return "[" + ",".join(map(text_with_numbers, value)) + "]"
     return json.dumps(value, ensure_ascii=False)
 
 
-def acts_of(body: bytes) -> list[dict]:
+def acts_of(body: bytes) -> list[Json]:
     """Reads a list of acts. What is no list is refused here; of a list each place has to be an object with a kind."""
     try:
         acts = value_of(body.decode())
@@ -58,7 +78,7 @@ def acts_of(body: bytes) -> list[dict]:
     return acts
 
 
-def bytes_of(acts: list[dict]) -> bytes:
+def bytes_of(acts: list[Json]) -> bytes:
     """Writes a list as the office gets it."""
     data = text_of(acts).encode()
     if len(data) > MOST_BYTES:
@@ -66,9 +86,7 @@ def bytes_of(acts: list[dict]) -> bytes:
     return data
 
 
-def number_in(act: dict, name: str) -> int | None:
+def number_in(act: Json, name: str) -> int | None:
     """Returns the number of a thing that a member names, or None if it names none."""
     value = act.get(name)
-    if isinstance(value, Number) and value.isdigit() and len(value) <= 10:
-        return int(value)
-    return None
+    return value if type(value) is int and 0 <= value < 10**10 else None

@@ -6,6 +6,8 @@ import zlib
 from dataclasses import dataclass, field
 from pathlib import Path
 
+from office_gate.body import Json
+
 
 @dataclass
 class Aggregations:
@@ -36,7 +38,7 @@ class Aggregations:
         return None
 
 
-def rows(folder: Path, name: str) -> tuple[float, list[dict]]:
+def rows(folder: Path, name: str) -> tuple[float, list[Json]]:
     data = json.loads(gzip.decompress((folder / f"{name}.json.gz").read_bytes()))
     moment = datetime.datetime.fromisoformat(data["moment"].replace("Z", "+00:00")).timestamp()
     return moment, data[name]

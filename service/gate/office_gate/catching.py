@@ -4,6 +4,7 @@ import re
 from collections.abc import Iterator
 from pathlib import Path
 
+from office_gate.body import Json
 from office_gate.chain import Head, Line, digest, entry_of, files_of, first_number, lines_of
 from office_gate.facts import Facts
 
@@ -27,7 +28,7 @@ def is_of(files: list[Path], head: Head) -> bool:
     return False
 
 
-def lines_after(files: list[Path], last: int) -> Iterator[dict]:
+def lines_after(files: list[Path], last: int) -> Iterator[Json]:
     """Gives the entries of the lines after that one."""
     for path, after in zip(files, [*files[1:], None]):
         if after is not None and first_number(after) <= last:
@@ -49,7 +50,7 @@ def known_line(files: list[Path], facts: Facts) -> int:
 def unanswered(journal: Path, facts: Facts) -> list[int]:
     """Lists the lines of what was asked and never answered, as an end of the gate leaves it."""
     files = files_of(journal)
-    waiting: dict[int, dict] = {}
+    waiting: dict[int, Json] = {}
     for entry in lines_after(files, known_line(files, facts)):
         if entry.get("what") == "asked":
             waiting[int(entry["line"])] = entry
@@ -62,7 +63,7 @@ def catch_up(journal: Path, facts: Facts, end: Head) -> None:
     """Takes all lines that the facts lack, in one transaction."""
     files = files_of(journal)
     last = known_line(files, facts)
-    asked: dict[int, dict] = {}
+    asked: dict[int, Json] = {}
     facts.begin()
     for entry in lines_after(files, last):
         if entry.get("what") == "asked":

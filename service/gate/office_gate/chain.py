@@ -6,7 +6,7 @@ from collections.abc import Iterator
 from dataclasses import dataclass
 from pathlib import Path
 
-from office_gate.body import text_of, value_of
+from office_gate.body import Json, text_of, value_of
 from office_gate.errors import Refused
 
 NONE = "0" * 64
@@ -58,7 +58,7 @@ class Line:
     def where(self) -> str:
         return f"{self.path}:{self.place}"
 
-    def entry(self) -> dict:
+    def entry(self) -> Json:
         """Reads the line; Refused says where there is none."""
         try:
             found = value_of(self.data.decode())
@@ -142,7 +142,7 @@ def check(files: list[Path], known: dict[int, str] | None = None) -> Checked:
     return found
 
 
-def entry_of(line: Line) -> dict | None:
+def entry_of(line: Line) -> Json | None:
     """Reads a line, or returns None if a stop in the middle of a writing left it."""
     try:
         return line.entry() if line.is_whole else None
@@ -150,7 +150,7 @@ def entry_of(line: Line) -> dict | None:
         return None
 
 
-def compare(line: Line, entry: dict, found: Checked) -> None:
+def compare(line: Line, entry: Json, found: Checked) -> None:
     """Compares a line with the one before it, and with what a stop left between the two."""
     number, before = int(entry["line"]), found.head
     if found.lines == 0:
@@ -177,7 +177,7 @@ def told(text: str) -> dict[int, str]:
     return {int(number): sha256 for number, sha256 in HEAD.findall(text)}
 
 
-def entries(files: list[Path]) -> Iterator[dict]:
+def entries(files: list[Path]) -> Iterator[Json]:
     """Gives the entries of all lines, in their order; what a stop left is passed over."""
     for path in files:
         for line in lines_of(path):

@@ -12,11 +12,11 @@ from office_gate.words import MAY, READS
 def serve(it: argparse.Namespace) -> int:
     """stand between nginx and an office"""
     try:
-        from office_gate import running
+        from office_gate import running, starting
     except ModuleNotFoundError as error:
         raise Refused(2, f"there is no {error.name}: apt-get install python3-aiohttp") from error
-    names = ("settings", "journal", "state", "token", "catalogue", "socket")
-    running.run({name: getattr(it, name) for name in names}, it.office)
+    places = starting.Places(it.settings, it.journal, it.state, it.token, it.catalogue, it.socket)
+    running.run(places, it.office)
     return 0
 
 
@@ -64,7 +64,7 @@ def main(arguments: list[str]) -> int:
     it = words().parse_args(arguments)
     os.umask(0o027)
     try:
-        return it.what(it)
+        return int(it.what(it))
     except Refused as refused:
         print(f"office-gate: {refused}", file=sys.stderr)
         return refused.status

@@ -10,7 +10,7 @@ import os
 import subprocess
 from pathlib import Path
 
-from office_gate.body import text_of
+from office_gate.body import Json, Number, text_of
 from office_gate.chain import digest
 from office_gate.errors import say
 
@@ -23,7 +23,10 @@ class Contents:
 
     def __init__(self, folder: Path) -> None:
         self.folder = folder
-        folder.mkdir(mode=0o700, exist_ok=True)
+
+    def make(self) -> "Contents":
+        self.folder.mkdir(mode=0o700, exist_ok=True)
+        return self
 
     def add(self, parts: list[bytes]) -> dict[str, object]:
         """Appends contents, and returns where the first one is: they are on the disk."""
@@ -75,7 +78,7 @@ def decoded(text: object) -> bytes | None:
     return data if base64.b64encode(data).decode() == text else None
 
 
-def noted(acts: list[dict]) -> tuple[list[dict], list[bytes]]:
+def noted(acts: list[Json]) -> tuple[list[Json], list[bytes]]:
     """Returns the acts as the journal has them, and the contents that it leaves out."""
     parts: list[bytes] = []
     found = []
@@ -92,7 +95,8 @@ def noted(acts: list[dict]) -> tuple[list[dict], list[bytes]]:
 
 
 def is_short(value: object) -> bool:
-    return value is None or isinstance(value, bool) or isinstance(value, str) and len(value) <= LONGEST
+    text = value.text if isinstance(value, Number) else value
+    return value is None or isinstance(value, int) or isinstance(text, str) and len(text) <= LONGEST
 
 
 def shortened(value: object) -> dict[str, object]:

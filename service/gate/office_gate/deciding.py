@@ -4,9 +4,10 @@ import re
 from dataclasses import dataclass
 
 from office_gate.access import Access, Person
+from office_gate.body import Json
 from office_gate.errors import Answered
-from office_gate.scopes import Scopes, given_in, has_thing
-from office_gate.words import ACTS, LATER_DAY, RESUME, SIGNED, VAULT
+from office_gate.scopes import Scopes, has_thing
+from office_gate.words import ACTS, LATER_DAY, RESUME, SIGNED
 
 DAY = re.compile(r"\d\d\d\d-\d\d-\d\d", re.ASCII)
 
@@ -25,7 +26,7 @@ def today(access: Access) -> str:
     return datetime.datetime.now(access.zone).date().isoformat()
 
 
-def kinds(person: Person, acts: list[dict]) -> None:
+def kinds(person: Person, acts: list[Json]) -> None:
     """Refuses a kind that is none, or that the name has no right for."""
     for place, act in enumerate(acts):
         if act["act"] not in ACTS:
@@ -34,7 +35,7 @@ def kinds(person: Person, acts: list[dict]) -> None:
             raise Answered(403, "right", act=act["act"], place=place)
 
 
-def sign(person: Person, acts: list[dict]) -> None:
+def sign(person: Person, acts: list[Json]) -> None:
     """Puts the name that signed in where an act names a person, and refuses another one."""
     for place, act in enumerate(acts):
         if act["act"] not in SIGNED:
@@ -44,7 +45,12 @@ def sign(person: Person, acts: list[dict]) -> None:
         act["by"] = person.signs
 
 
-def days(access: Access, person: Person, acts: list[dict]) -> list[int]:
+def signed(noted: list[Json], acts: list[Json]) -> list[Json]:
+    """Returns acts as the journal has them, with the names that were put in."""
+    return [it | {"by": act["by"]} if act["act"] in SIGNED else it for it, act in zip(noted, acts)]
+
+
+def days(access: Access, person: Person, acts: list[Json]) -> list[int]:
     """Refuses a day after today without the right to it. Returns the places of acts with a day before today."""
     now, earlier = today(access), []
     for place, act in enumerate(acts):
@@ -65,9 +71,11 @@ def reason(access: Access, asked: Asked, kind: str, place: int | None = None) ->
         raise Answered(400, "reason", act=kind, **where)
 
 
-async def classes(person: Person, acts: list[dict], scopes: Scopes) -> None:
+async def classes(person: Person, acts: list[Json], scopes: Scopes) -> None:
     """Refuses what is about a class for which the name has no right."""
-    given = given_in(acts)
+    if all(person.may_all(it["act"]) for it in acts):
+        return
+    given = await scopes.given_in(acts)
     for place, act in enumerate(acts):
         kind = act["act"]
         if person.may_all(kind):
@@ -82,8 +90,3 @@ def resume(access: Access, asked: Asked) -> None:
     if not asked.person.may_all(RESUME):
         raise Answered(403, "right", act=RESUME)
     reason(access, asked, RESUME)
-
-
-def put(asked: Asked) -> None:
-    if not asked.person.may(VAULT):
-        raise Answered(403, "right", act=VAULT)

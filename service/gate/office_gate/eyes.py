@@ -2,6 +2,7 @@
 import json
 
 from office_gate.access import Access, Person
+from office_gate.body import Json
 from office_gate.catalogue import Aggregations
 from office_gate.deciding import DAY
 from office_gate.errors import Answered
@@ -35,7 +36,7 @@ class Eyes:
         if self.rules.opener_does_not_carry_out and self.is_opener(person):
             raise refused(CARRIES)
 
-    async def acts(self, person: Person, acts: list[dict]) -> None:
+    async def acts(self, person: Person, acts: list[Json]) -> None:
         """Looks at a list as a whole, and at what the name did before."""
         found = [it["act"] for it in acts]
         decided = [place for place, kind in enumerate(found) if kind in DECISIONS]
@@ -67,7 +68,7 @@ class Eyes:
             if row["confirmed"]:
                 await self.taken(person, row, touched, place)
 
-    async def taken(self, person: Person, row: dict, touched: set[str], place: int) -> None:
+    async def taken(self, person: Person, row: Json, touched: set[str], place: int) -> None:
         number = row["record"]
         if self.rules.confirmer_does_not_open and await self.is_confirmer(person, number):
             raise refused(OPENS, place=place, record=number)

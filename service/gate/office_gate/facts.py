@@ -6,10 +6,11 @@ import sqlite3
 import time
 from pathlib import Path
 
-from office_gate.body import number_in
+from office_gate.body import Json, number_in
 from office_gate.catalogue import Aggregations
 from office_gate.chain import Head
-from office_gate.words import OF_RECORD
+from office_gate.errors import Refused, say
+from office_gate.words import GIVES, OF_RECORD
 
 TABLES = """
 CREATE TABLE IF NOT EXISTS folded (one INTEGER PRIMARY KEY CHECK (one = 1), line INTEGER, sha256 TEXT);
@@ -22,8 +23,6 @@ CREATE TABLE IF NOT EXISTS runs (line INTEGER, place INTEGER, name TEXT, number 
 """
 MARGIN = 120.0
 """so many seconds before its moment the journal is read on from a catalogue: what is done twice makes no difference"""
-
-
 NONE_OPEN = "18"
 """the refusal that says that no run is open"""
 
@@ -32,7 +31,7 @@ def is_none_open(answer: object) -> bool:
     return isinstance(answer, dict) and str(answer.get("refused")) == NONE_OPEN
 
 
-def thing_of(act: dict) -> str | None:
+def thing_of(act: Json) -> str | None:
     """Names what an act that decides about disposal is about."""
     kind = act["act"]
     if kind in OF_RECORD:
@@ -45,12 +44,41 @@ def thing_of(act: dict) -> str | None:
     return None
 
 
+def made_with(act: Json, number: object) -> str | None:
+    """Names what an act made, if it gave it a schedule or a class of its own."""
+    kind, own = act["act"], (act.get("class"), act.get("schedule"))
+    if kind == "add-class":
+        return f"class:{act.get('code')}"
+    if kind in ("add-record", "add-aggregation") and number is not None and own != (None, None):
+        return f"{kind.removeprefix('add-')}:{number}"
+    return None
+
+
+def opened(path: Path) -> sqlite3.Connection:
+    db = sqlite3.connect(path, isolation_level=None)
+    db.executescript("PRAGMA journal_mode = WAL; PRAGMA synchronous = NORMAL;" + TABLES)
+    if db.execute("PRAGMA quick_check(1)").fetchone() != ("ok",):
+        raise sqlite3.DatabaseError("its pages are damaged")
+    return db
+
+
 class Facts:
     """The tables, in a file beside the journal."""
 
     def __init__(self, path: Path) -> None:
-        self.db = sqlite3.connect(path, isolation_level=None)
-        self.db.executescript("PRAGMA journal_mode = WAL; PRAGMA synchronous = OFF;" + TABLES)
+        try:
+            self.db = opened(path)
+        except sqlite3.DatabaseError as error:
+            say(f"{path} is made anew: {error}")
+            self.db = self.made_anew(path)
+
+    def made_anew(self, path: Path) -> sqlite3.Connection:
+        for end in ("", "-wal", "-shm"):
+            Path(f"{path}{end}").unlink(missing_ok=True)
+        try:
+            return opened(path)
+        except sqlite3.DatabaseError as error:
+            raise Refused(3, f"{path}: {error}") from error
 
     def folded(self) -> Head | None:
         found = self.db.execute("SELECT line, sha256 FROM folded").fetchone()
@@ -73,7 +101,7 @@ class Facts:
 
     # ---- folding
 
-    def fold(self, asked: dict, answered: dict, line: int, at: float) -> None:
+    def fold(self, asked: Json, answered: Json, line: int, at: float) -> None:
         """Takes what a request did, or may have done, of its two lines."""
         name, answers = str(asked["name"]), answered.get("answers")
         if asked["request"] == "POST /run/resume":
@@ -89,14 +117,14 @@ class Facts:
             elif answer is None or "refused" not in answer:
                 self.done(act, answer, name, (line, place, at))
 
-    def done(self, act: dict, answer: dict | None, name: str, where: tuple[int, int, float]) -> None:
+    def done(self, act: Json, answer: Json | None, name: str, where: tuple[int, int, float]) -> None:
         kind, (line, place, at) = act["act"], where
-        thing = thing_of(act)
+        number = answer.get("number") if answer else None
+        thing = thing_of(act) or made_with(act, number)
         if thing is not None:
             # of what nobody knows the kind has a mark
             self.db.execute("INSERT INTO touches VALUES (?, ?, ?, ?, ?)",
                             (line, at, name, kind if answer else f"{kind}?", thing))
-        number = answer.get("number") if answer else None
         if kind == "add-aggregation" and number is not None:
             self.note(where, kind, int(number), act)
         elif kind == "reclassify" and str(act.get("target")).startswith("aggregation:"):
@@ -109,7 +137,7 @@ class Facts:
         elif kind == "run-step" and answer and "certificate" in answer:
             self.closed()
 
-    def note(self, where: tuple[int, int, float], kind: str, number: int, act: dict) -> None:
+    def note(self, where: tuple[int, int, float], kind: str, number: int, act: Json) -> None:
         line, place, at = where
         self.db.execute("INSERT OR REPLACE INTO aggregations VALUES (?, ?, ?, ?, ?, ?, ?)",
                         (line, place, at, kind, number, number_in(act, "parent"), act.get("class")))
@@ -148,7 +176,6 @@ class Facts:
 
     def touched(self, name: str, days: int) -> set[str]:
         """Lists what a name gave a schedule or a class within so many days."""
-        found = self.db.execute("SELECT DISTINCT thing FROM touches WHERE name = ? AND at > ? AND rtrim(kind, '?') IN "
-                                "('set-record-schedule', 'reclassify', 'set-class-schedule', 'review')",
+        found = self.db.execute("SELECT DISTINCT rtrim(kind, '?'), thing FROM touches WHERE name = ? AND at > ?",
                                 (name, time.time() - days * 86400))
-        return {thing for (thing,) in found}
+        return {thing for kind, thing in found if kind in GIVES}

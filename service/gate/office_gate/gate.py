@@ -1,11 +1,13 @@
 """What one gate has open: its settings, the journal, what it knows, the office; and how it acts for a name."""
 import asyncio
+import contextlib
 import sqlite3
 import time
 from dataclasses import dataclass, field
 
 from office_gate import body, deciding, settings
 from office_gate.access import Access
+from office_gate.body import Json
 from office_gate.catalogue import Aggregations, Catalogue
 from office_gate.catching import catch_up
 from office_gate.chain import Head, digest
@@ -18,7 +20,7 @@ from office_gate.journal import Journal
 from office_gate.metrics import Metrics
 from office_gate.office import UNKNOWN, Answer, Office
 from office_gate.scopes import Asking, Scopes
-from office_gate.turns import AtOnce
+from office_gate.turns import AtOnce, Turns
 
 Written = asyncio.Future[Head]
 """the line of an answer, once it is on the disk"""
@@ -57,7 +59,8 @@ class Gate:
     metrics: Metrics = field(default_factory=Metrics)
     requests: AtOnce = field(default_factory=AtOnce)
     lists: AtOnce = field(default_factory=AtOnce)
-    acting: asyncio.Lock = field(default_factory=asyncio.Lock)
+    # one list of acts is judged and done at a time
+    acting: Turns = field(default_factory=lambda: Turns(1))
     is_behind: bool = False
 
     # ---- settings
@@ -71,9 +74,12 @@ class Gate:
         else:
             is_new, self.access = access.digest != self.access.digest, access
             if is_new:
-                await self.journal.append({"what": "settings", "sha256": access.digest})
                 say(f"new settings, SHA-256 {access.digest}")
-        await self.journal.in_thread(self.journal.reopen)
+                # a full disk does not keep a rotation from taking effect
+                with contextlib.suppress(Answered):
+                    await self.journal.append({"what": "settings", "sha256": access.digest})
+        with contextlib.suppress(Answered):
+            await self.journal.in_thread(self.journal.reopen)
 
     def aggregations(self) -> Aggregations:
         found, is_new = self.catalogue.read()
@@ -88,7 +94,8 @@ class Gate:
         entry = self.head(asked, "POST /acts") | {"body": {"bytes": len(data), "sha256": digest(data)}}
         try:
             acts = body.acts_of(data)
-            entry["acts"], _ = noted(acts)
+            plain, parts = noted(acts)
+            entry["acts"] = plain
             deciding.kinds(asked.person, acts)
             deciding.sign(asked.person, acts)
             if earlier := deciding.days(self.access, asked.person, acts):
@@ -96,9 +103,9 @@ class Gate:
             for place, act in enumerate(acts):
                 deciding.reason(self.access, asked, act["act"], place)
             sent = body.bytes_of(acts)
-            async with self.acting:
+            async with self.acting.turn(asked.person.name):
                 await self.judge(asked, acts)
-                entry["acts"], parts = noted(acts)
+                entry["acts"] = deciding.signed(plain, acts)
                 if parts:
                     entry["contents"] = await self.journal.in_thread(self.journal.contents.add, parts)
                 answer, written = await self.send(asked, entry, "/acts", sent)
@@ -107,7 +114,7 @@ class Gate:
             raise
         return await self.durable(answer, written)
 
-    async def judge(self, asked: Asked, acts: list[dict]) -> None:
+    async def judge(self, asked: Asked, acts: list[Json]) -> None:
         """Looks at classes and at the rules of four eyes, while nobody else acts."""
         self.recover()
         known = self.aggregations()
@@ -115,7 +122,7 @@ class Gate:
         await Eyes(self.access, self.facts, known, self.office).acts(asked.person, acts)
 
     def asking(self, asked: Asked) -> Asking:
-        async def record(number: int) -> dict | None:
+        async def record(number: int) -> Json | None:
             answer = await self.office.get(asked.person.name, f"/records/{number}", {"Office-Read": "newest"})
             if answer.status not in (200, 404):
                 raise Answered(503, "office")
@@ -127,7 +134,7 @@ class Gate:
         entry = self.head(asked, "POST /run/resume")
         try:
             deciding.resume(self.access, asked)
-            async with self.acting:
+            async with self.acting.turn(asked.person.name):
                 self.recover()
                 Eyes(self.access, self.facts, self.aggregations(), self.office).carry_out(asked.person)
                 answer, written = await self.send(asked, entry, "/run/resume", None)
@@ -136,7 +143,7 @@ class Gate:
             raise
         return await self.durable(answer, written)
 
-    async def send(self, asked: Asked, entry: dict, path: str, data: bytes | None) -> tuple[Answer, Written]:
+    async def send(self, asked: Asked, entry: Json, path: str, data: bytes | None) -> tuple[Answer, Written]:
         """Sends what acts. It is in the journal before the office has it."""
         began = time.monotonic()
         head = await self.journal.append({"what": "asked", **entry})
@@ -162,7 +169,7 @@ class Gate:
         except Answered:
             return UNKNOWN, self.journal.written
 
-    def learn(self, entry: dict, said: dict, head: Head) -> None:
+    def learn(self, entry: Json, said: Json, head: Head) -> None:
         """Takes what was done into what the gate knows. If the disk does not take it, no act follows before it does."""
         try:
             self.facts.begin()
@@ -186,7 +193,7 @@ class Gate:
             raise Answered(503, "journal") from error
         self.is_behind = False
 
-    async def refuse(self, entry: dict, refused: Answered) -> None:
+    async def refuse(self, entry: Json, refused: Answered) -> None:
         self.metrics.note("refused", refused.status, 0.0)
         line = {"what": "refused", **entry, "status": refused.status, "answer": refused.body()}
         await self.journal.append(line, is_durable=False)
@@ -199,6 +206,11 @@ class Gate:
         if key := asked.lines.get("Idempotency-Key"):
             found["key"] = key[:200]
         return found
+
+    async def put(self, asked: Asked, request: str) -> None:
+        """Writes the line of a file that goes into the vault now, whose digest its path names."""
+        self.metrics.note("put", 204, 0.0)
+        await self.journal.append({"what": "put", **self.head(asked, request)})
 
     async def note(self, asked: Asked, request: str, status: int, length: int) -> None:
         """Writes the line of a reading."""

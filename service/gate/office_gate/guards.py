@@ -21,13 +21,17 @@ class Lines:
     def __init__(self, raw: tuple[tuple[bytes, bytes], ...]) -> None:
         self.found: dict[str, list[str]] = {}
         for name, value in raw:
-            self.found.setdefault(name.decode("latin-1").lower(), []).append(value.decode("utf-8", "replace").strip())
+            self.found.setdefault(name.decode("latin-1").lower(), []).append(value.decode("utf-8", "replace").strip(" \t"))
 
     def one(self, name: str) -> str:
         values = self.found.get(name.lower(), [])
         if len(values) > 1:
             raise Answered(400, "header")
         return values[0] if values else ""
+
+    def first(self, name: str) -> str:
+        """Returns a line for the journal, which has also what is refused."""
+        return self.found.get(name.lower(), [""])[0]
 
     def has(self, name: str) -> bool:
         return name.lower() in self.found

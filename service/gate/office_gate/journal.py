@@ -7,7 +7,9 @@ import concurrent.futures
 import datetime
 import fcntl
 import os
+from collections.abc import Callable
 from pathlib import Path
+from typing import Any
 
 from office_gate import chain
 from office_gate.chain import Head, Line, entry_of
@@ -16,6 +18,9 @@ from office_gate.errors import Answered, Refused, say
 
 TOLD_EACH = 1000
 """after so many lines the head is printed, for the journal of systemd"""
+
+Waiting = tuple[bytes, Head, bool, asyncio.Future[None]]
+"""a line and its head, whether it has to be on the disk, and who waits for that"""
 
 
 def now() -> str:
@@ -35,7 +40,7 @@ class Journal:
         self.rest: bytes | None = None
         self.is_well = True
         self.file = -1
-        self.waiting: list[tuple[bytes, Head, bool, asyncio.Future[None]]] = []
+        self.waiting: list[Waiting] = []
         self.worker: asyncio.Task[None] | None = None
         self.thread = concurrent.futures.ThreadPoolExecutor(1, "journal")
 
@@ -71,8 +76,12 @@ class Journal:
         if os.path.sameopenfile(new, self.file):
             os.close(new)
             return
-        fcntl.flock(new, fcntl.LOCK_EX | fcntl.LOCK_NB)
-        self.write(self.lead, True)
+        try:
+            fcntl.flock(new, fcntl.LOCK_EX | fcntl.LOCK_NB)
+            self.write(self.lead, True)
+        except OSError:
+            os.close(new)
+            raise
         self.lead = b""
         os.close(self.file)
         self.file = new
@@ -126,7 +135,7 @@ class Journal:
         if is_durable:
             os.fdatasync(self.file)
 
-    def fail(self, batch: list, error: Exception) -> None:
+    def fail(self, batch: list[Waiting], error: Exception) -> None:
         """Gives up lines that the disk did not take, and those that were to follow them."""
         say(f"{self.path} is not written: {error}")
         self.is_well = False
@@ -141,7 +150,7 @@ class Journal:
             self.head = self.written
         self.written = self.head
 
-    async def in_thread(self, what, *words: object) -> object:
+    async def in_thread(self, what: Callable[..., Any], *words: object) -> Any:
         """Does something between two writings."""
         try:
             return await asyncio.get_running_loop().run_in_executor(self.thread, what, *words)

@@ -20,7 +20,7 @@ def check(it: argparse.Namespace) -> int:
     files = chain.files_of(it.journal)
     if not files:
         raise Refused(3, f"there is no journal {it.journal}")
-    known = {}
+    known: dict[int, str] = {}
     for text in [*it.head, *(place.read_text() for place in it.heads)]:
         known |= chain.told(text)
     found = chain.check(files, known)
@@ -94,7 +94,7 @@ def main(arguments: list[str]) -> int:
     it = words().parse_args(arguments)
     os.umask(0o077)
     try:
-        return it.what(it)
+        return int(it.what(it))
     except Refused as refused:
         print(f"office-journal: {refused}", file=sys.stderr)
         return refused.status

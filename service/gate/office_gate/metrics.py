@@ -1,5 +1,5 @@
 """Counts of what the gate answered, for a monitor: no name, no path and no content."""
-from collections import Counter
+from collections import Counter, defaultdict
 
 
 class Metrics:
@@ -7,7 +7,7 @@ class Metrics:
 
     def __init__(self) -> None:
         self.answers: Counter[tuple[str, int]] = Counter()
-        self.seconds: Counter[str] = Counter()
+        self.seconds: dict[str, float] = defaultdict(float)
 
     def note(self, kind: str, status: int, seconds: float) -> None:
         self.answers[kind, status] += 1

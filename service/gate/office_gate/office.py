@@ -3,9 +3,11 @@ import asyncio
 import json
 import time
 from dataclasses import dataclass, field
+from typing import Any
 
 import aiohttp
 
+from office_gate.body import Json
 from office_gate.errors import Answered
 from office_gate.turns import Turns
 
@@ -29,7 +31,7 @@ class Answer:
     lines: dict[str, str] = field(default_factory=dict)
     is_known: bool = True
 
-    def json(self) -> object:
+    def json(self) -> Any:
         return json.loads(self.body)
 
 

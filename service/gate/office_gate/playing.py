@@ -6,8 +6,9 @@ import shutil
 import socket
 import subprocess
 from pathlib import Path
+from typing import Any
 
-from office_gate.body import text_of, value_of
+from office_gate.body import Json, text_of, value_of
 from office_gate.errors import Refused
 
 SECONDS = 600
@@ -19,7 +20,7 @@ class Player:
     def __init__(self, file: Path) -> None:
         self.program = os.environ.get("OFFICE", "office")
         self.file = file
-        self.process: subprocess.Popen | None = None
+        self.process: subprocess.Popen[bytes] | None = None
         self.port = 0
 
     def start(self) -> None:
@@ -50,7 +51,7 @@ class Player:
         finally:
             link.close()
 
-    def acts(self, acts: list[dict]) -> list:
+    def acts(self, acts: list[Json]) -> list[Any]:
         """Does acts, and returns their answers."""
         if not acts:
             return []

@@ -5,6 +5,7 @@ import re
 
 from office_gate import deciding
 from office_gate.access import Person
+from office_gate.body import Json
 from office_gate.deciding import Asked
 from office_gate.errors import Answered
 from office_gate.gate import Gate
@@ -19,6 +20,8 @@ FILES = re.compile(f"/records/({NUMBER})/files(?:/[1-9][0-9]{{0,5}})?")
 LIST = re.compile(f"/due/{DAY}|/overdue/{DAY}/[0-9]{{1,9}}")
 CERTIFICATE = re.compile(f"/certificates/{NUMBER}")
 OBJECT = re.compile("/vault/[0-9a-f]{64}")
+LIMITS = "/vault/limits"
+"""what fits into the vault, for whoever puts a file in"""
 CATALOGUE = re.compile(r"/catalogue/[a-z]{1,32}\.json")
 KEYS = ("Office-Read", "Office-After")
 
@@ -77,7 +80,7 @@ class Reading:
             self.compare("records", answer.json())
         return answer
 
-    def compare(self, thing: str, record: dict) -> None:
+    def compare(self, thing: str, record: Json) -> None:
         if not self.person.may_in(f"read {thing}", record["class"], record["status"]):
             raise Answered(403, "class", read=thing)
 
@@ -136,7 +139,7 @@ class Reading:
 
     async def may(self, method: str, path: str) -> None:
         """Answers nginx, which has the file itself: whether this name may have it."""
-        if method == "PUT" and OBJECT.fullmatch(path):
+        if method == "PUT" and OBJECT.fullmatch(path) or method in ("GET", "HEAD") and path == LIMITS:
             if not self.person.may(VAULT):
                 raise Answered(403, "right", act=VAULT)
         elif method in ("GET", "HEAD") and (found := FILES.fullmatch(path)):

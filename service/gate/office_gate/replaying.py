@@ -7,7 +7,7 @@ import tempfile
 from dataclasses import dataclass, field
 from pathlib import Path
 
-from office_gate.body import text_of
+from office_gate.body import Json, text_of
 from office_gate.errors import Refused
 from office_gate.playing import Player, copy
 from office_gate.requests import Kept, Request, Span, differences, keys_of, needs_of

@@ -6,8 +6,9 @@ from collections.abc import Iterator
 from contextlib import closing
 from dataclasses import dataclass, field
 from pathlib import Path
+from typing import Any
 
-from office_gate.body import number_in
+from office_gate.body import Json, number_in
 from office_gate.chain import entries
 from office_gate.contents import Contents
 from office_gate.errors import Refused
@@ -27,9 +28,9 @@ class Request:
 
     line: int
     asked_at: float
-    acts: list[dict] | None
-    contents: dict | None
-    answers: list = field(default_factory=list)
+    acts: list[Json] | None
+    contents: Json | None
+    answers: list[Any] = field(default_factory=list)
     answered_at: float = float("inf")
     status: int = 0
     is_known: bool = False
@@ -54,7 +55,7 @@ class Request:
         return [(begin, end) for end in ends for begin in begins if begin <= end]
 
 
-def take(entry: dict) -> Request:
+def take(entry: Json) -> Request:
     acts = entry.get("acts") if entry["request"] == "POST /acts" else None
     return Request(int(entry["line"]), seconds(entry["at"]), acts, entry.get("contents"))
 
@@ -85,7 +86,7 @@ class Kept:
         self.contents = contents
         self.beside = sqlite3.connect(f"file:{beside}?immutable=1", uri=True) if beside else None
 
-    def of(self, request: Request) -> list[dict]:
+    def of(self, request: Request) -> list[Json]:
         """Returns the acts of a request with their contents."""
         at = int(str(request.contents["from"])) if request.contents else 0
         found = []
@@ -125,7 +126,7 @@ TABLES = {"office": ("one", "day"), "schedules": ("code", "schedule"), "schedule
           "events": ("record", "record")}
 
 
-def keys_of(act: dict) -> set[str]:
+def keys_of(act: Json) -> set[str]:
     """Names what an act changes. Two acts without a name in common seldom concern each other."""
     kind, found = act.get("act"), set()
     if kind in OF_RECORD:
@@ -142,7 +143,7 @@ def keys_of(act: dict) -> set[str]:
     return found
 
 
-def needs_of(act: dict, *answers: object) -> set[str]:
+def needs_of(act: Json, *answers: object) -> set[str]:
     """Names what the answer to an act depends on: what it changes, what it names, and what its answers name."""
     found = keys_of(act)
     if not all(isinstance(it, dict) and "number" in it for it in answers):
@@ -171,7 +172,7 @@ def differences(left: Path, right: Path) -> list[tuple[str, set[str]]]:
     return found
 
 
-def differing(db: sqlite3.Connection, table: str) -> Iterator[tuple]:
+def differing(db: sqlite3.Connection, table: str) -> Iterator[tuple[Any, ...]]:
     one, two = f"SELECT * FROM main.{table}", f"SELECT * FROM other.{table}"
     yield from db.execute(f"{one} EXCEPT {two}")
     yield from db.execute(f"{two} EXCEPT {one}")

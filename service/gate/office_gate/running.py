@@ -12,6 +12,7 @@ from office_gate import starting
 from office_gate.errors import Refused, say
 from office_gate.gate import Gate
 from office_gate.serving import Front
+from office_gate.starting import Places
 
 BACKLOG = 4096
 STOP_SECONDS = 300
@@ -78,14 +79,13 @@ async def serve(gate: Gate, at: socket.socket) -> None:
 
 
 async def drained(front: Front) -> None:
-    """Waits until each connection that was accepted has its answer."""
+    """Waits until each connection that was accepted has its answer, and each act whose client went away is done."""
     ends = time.monotonic() + STOP_SECONDS
-    while front.connections and time.monotonic() < ends:
+    while (front.connections or front.under_way) and time.monotonic() < ends:
         await asyncio.sleep(0.01)
 
 
-def run(paths: dict[str, Path | None], address: str) -> None:
-    at = listener(paths["socket"])
-    gate = starting.opened(paths, address)
+def run(places: Places, address: str) -> None:
+    at = listener(places.socket)
+    gate = starting.opened(places, address)
     asyncio.run(serve(gate, at))
-

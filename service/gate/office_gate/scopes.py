@@ -1,14 +1,13 @@
 """The classes that an act is about: of records the office is asked, of aggregations the catalogue and the journal."""
-import json
 from collections.abc import Awaitable, Callable
 
-from office_gate.body import number_in
+from office_gate.body import Json, number_in
 from office_gate.catalogue import Aggregations
 from office_gate.words import OF_RECORD
 
 Scope = list[str | None]
 """classes, for each of which a right is needed. None is in no class, or in one that nobody knows"""
-Asking = Callable[[int], Awaitable[dict | None]]
+Asking = Callable[[int], Awaitable[Json | None]]
 """returns what the office reports of a record"""
 
 
@@ -21,14 +20,18 @@ def split(target: object) -> tuple[str, str]:
     return kind, name
 
 
+def number_of(name: str) -> int | None:
+    return int(name) if name.isascii() and name.isdigit() and len(name) <= 10 else None
+
+
 class Scopes:
     """The classes of one list of acts, as they are before its first act."""
 
     def __init__(self, aggregations: Aggregations, asking: Asking) -> None:
         self.aggregations, self.asking = aggregations, asking
-        self.records: dict[int, dict | None] = {}
+        self.records: dict[int, Json | None] = {}
 
-    async def record(self, number: int | None) -> dict | None:
+    async def record(self, number: int | None) -> Json | None:
         if number is None:
             return None
         if number not in self.records:
@@ -42,7 +45,7 @@ class Scopes:
     def class_of(self, number: int | None) -> str | None:
         return self.aggregations.class_of(number)
 
-    async def of(self, act: dict) -> Scope:
+    async def of(self, act: Json) -> Scope:
         kind = act["act"]
         if kind == "set-class-schedule":
             return [text(act.get("class"))]
@@ -62,7 +65,7 @@ class Scopes:
             return [await self.of_target(act.get("target"))]
         return [None]
 
-    def both(self, act: dict, container: str) -> Scope:
+    def both(self, act: Json, container: str) -> Scope:
         """What is put into a container is in the class that it names, and counts for that of the container."""
         found: Scope = []
         if act.get("class") is not None:
@@ -75,34 +78,31 @@ class Scopes:
         kind, name = split(target)
         if kind == "class":
             return name
-        number = int(name) if name.isascii() and name.isdigit() and len(name) <= 10 else None
         if kind == "aggregation":
-            return self.class_of(number)
-        return await self.class_of_record(number) if kind == "record" else None
+            return self.class_of(number_of(name))
+        return await self.class_of_record(number_of(name)) if kind == "record" else None
 
-    async def of_reclassified(self, act: dict) -> Scope:
-        """The class that the target has, and the one that it gets: its own, or else what it then inherits."""
-        before = await self.of_target(act.get("target"))
+    async def of_reclassified(self, act: Json) -> Scope:
+        """The class that the target has, and the one that it gets."""
+        return [await self.of_target(act.get("target")), await self.given_by(act)]
+
+    async def given_by(self, act: Json) -> str | None:
+        """The class that a target gets: its own, or else what it then inherits."""
         if act.get("class") is not None:
-            return [before, text(act["class"])]
+            return text(act["class"])
         kind, name = split(act.get("target"))
-        number = int(name) if name.isascii() and name.isdigit() and len(name) <= 10 else None
+        number = number_of(name)
         if kind == "record":
             found = await self.record(number)
-            return [before, self.class_of(found["aggregation"]) if found else None]
-        return [before, self.class_of(self.aggregations.parents.get(number or 0))]
+            return self.class_of(found["aggregation"]) if found else None
+        return self.class_of(self.aggregations.parents.get(number or 0))
+
+    async def given_in(self, acts: list[Json]) -> Scope:
+        """The classes that the list gives to things: within the list a thing may have any of these."""
+        return [await self.given_by(it) for it in acts if it["act"] == "reclassify"]
 
 
-def given_in(acts: list[dict]) -> Scope:
-    """The classes that the list gives to things: within the list a thing may have any of these."""
-    return [text(it.get("class")) for it in acts if it["act"] == "reclassify" and it.get("class") is not None]
-
-
-def has_thing(act: dict) -> bool:
+def has_thing(act: Json) -> bool:
     """Whether an act is about a record or an aggregation that is there, whose class the list may change."""
     return act["act"] in (*OF_RECORD, "reclassify", "close-aggregation", "add-record", "add-aggregation") or \
         act["act"] in ("hold-on", "hold-off") and split(act.get("target"))[0] != "class"
-
-
-def record_of(body: bytes) -> dict:
-    return json.loads(body)

@@ -1,8 +1,10 @@
 """The requests that nginx passes on: one a connection, read whole, answered once."""
 import asyncio
+import contextlib
 import json
 import sys
 import traceback
+from collections.abc import Awaitable
 
 from aiohttp import web
 from aiohttp.web_protocol import RequestHandler
@@ -16,15 +18,36 @@ from office_gate.office import Answer
 from office_gate.reading import Reading
 
 BODY_SECONDS = 60
+HEAD_SECONDS = 10
+"""nginx sends a head at once, so a connection that brings none is nobody's; it would hold up a stop"""
 POSTS = ("/acts", "/run/resume")
-GETS = ("/records/", "/due/", "/overdue/", "/certificates/", "/rights", "/alive", "/metrics", "/may")
+MAY = "/may"
+"""what nginx asks about a file that it has itself"""
+GETS = ("/records/", "/due/", "/overdue/", "/certificates/", "/rights", "/alive", "/metrics", MAY)
+MOST_TOLD = 400
+"""so many letters of a path are in the journal"""
 
 
 class Connection(RequestHandler):
     """A connection. Of bytes that are no request the journal has a line too."""
 
-    def handle_error(self, request, status=500, exc=None, message=None) -> web.StreamResponse:
-        self._manager.note_unreadable()
+    def connection_made(self, transport: asyncio.BaseTransport) -> None:
+        super().connection_made(transport)
+        self.late = self._loop.call_later(HEAD_SECONDS, self.end_if_silent)
+
+    def connection_lost(self, exc: BaseException | None) -> None:
+        self.late.cancel()
+        super().connection_lost(exc)
+
+    def end_if_silent(self) -> None:
+        if self._current_request is None and self.transport is not None:
+            self.transport.abort()
+
+    front: "Front"
+
+    def handle_error(self, request: web.BaseRequest, status: int = 500, exc: BaseException | None = None,
+                     message: str | None = None) -> web.StreamResponse:
+        self.front.note_unreadable()
         return reply(status if status < 500 else 500, {"error": "head" if status < 500 else "gate"})
 
 
@@ -35,10 +58,13 @@ class Front(web.Server):
         super().__init__(self.handle, access_log=None, keepalive_timeout=0, lingering_time=1.0, auto_decompress=False,
                          max_line_size=16384, max_headers=64, max_field_size=16384)
         self.gate = gate
-        self.under_way = 0
+        # answers that are not whole yet, also those whose client went away
+        self.under_way: set[asyncio.Future[web.StreamResponse]] = set()
 
     def __call__(self) -> RequestHandler:
-        return Connection(self, loop=self._loop, **self._kwargs)
+        it = Connection(self, loop=self._loop, **self._kwargs)
+        it.front = self
+        return it
 
     def note_unreadable(self) -> None:
         """Bytes that are no request have no name and no path."""
@@ -47,25 +73,34 @@ class Front(web.Server):
         asyncio.ensure_future(quiet(self.gate.journal.append(entry, is_durable=False)))
 
     async def handle(self, request: web.BaseRequest) -> web.StreamResponse:
-        self.under_way += 1
+        # an act goes on if its client goes away
+        one = asyncio.ensure_future(self.answer(request))
+        self.under_way.add(one)
+        one.add_done_callback(self.done)
         try:
-            # an act goes on if its client goes away
-            return await asyncio.shield(asyncio.ensure_future(self.answer(request)))
+            return await asyncio.shield(one)
         except Answered as refused:
-            return reply(refused.status, refused.body())
+            back = reply(refused.status, refused.body())
+            if request.raw_path == MAY:
+                # nginx passes on no body of what it asked, so it takes the word
+                back.headers["Office-Word"] = refused.word
+            return back
         except ConnectionError:
             raise
         except Exception:
             traceback.print_exc(file=sys.stderr)
             return reply(500, {"error": "gate"})
-        finally:
-            self.under_way -= 1
+
+    def done(self, one: asyncio.Future[web.StreamResponse]) -> None:
+        self.under_way.discard(one)
+        if not one.cancelled():
+            # without this the loop prints each refusal of a client that went away
+            one.exception()
 
     async def answer(self, request: web.BaseRequest) -> web.StreamResponse:
-        what = f"{request.method} {request.raw_path}"[:400]
+        lines = Lines(request.raw_headers)
         name, journaled = "", False
         try:
-            lines = Lines(request.raw_headers)
             name = guards.name_of(self.gate, lines)
             is_post = request.method == "POST"
             guards.site(self.gate, lines, is_post)
@@ -77,23 +112,18 @@ class Front(web.Server):
                     data = await self.body(request, lines) if request.raw_path == "/acts" else b""
                     journaled = True
                     return await self.act(request.raw_path, asked, data)
-                if request.raw_path == "/may":
+                if request.raw_path == MAY:
                     return await self.may(asked, lines)
                 answer = await Reading(self.gate, asked).answer(request.raw_path)
-                await self.gate.note(asked, what, answer.status, len(answer.body))
+                await self.gate.note(asked, what(request, lines), answer.status, len(answer.body))
                 return passed_back(answer)
         except Answered as refused:
             if not journaled:
-                await self.gate.refuse(self.entry(name, request), refused)
+                await self.gate.refuse(entry(name, request, lines), refused)
             raise
         except Exception:
-            await self.gate.refuse(self.entry(name, request), Answered(500, "gate"))
+            await self.gate.refuse(entry(name, request, lines), Answered(500, "gate"))
             raise
-
-    def entry(self, name: str, request: web.BaseRequest) -> dict[str, object]:
-        """What the journal says of a request that came to no decision."""
-        what = f"{request.method} {request.raw_path}"[:400]
-        return {"name": name, "from": request.headers.get("Office-From", "")[:64], "request": what}
 
     async def act(self, path: str, asked: Asked, data: bytes) -> web.StreamResponse:
         if path == "/acts":
@@ -117,18 +147,33 @@ class Front(web.Server):
             raise Answered(400, "body") from error
 
     async def may(self, asked: Asked, lines: Lines) -> web.StreamResponse:
+        """Answers nginx, which asks before it gives a file, or takes one."""
         verb, path = lines.one("Office-Method"), lines.one("Office-Path")
         guards.site(self.gate, lines, verb == "PUT")
         await Reading(self.gate, asked).may(verb, path)
-        await self.gate.note(asked, f"{verb} {path}"[:400], 204, 0)
+        if verb == "PUT":
+            await self.gate.put(asked, f"{verb} {path}")
+        else:
+            await self.gate.note(asked, f"{verb} {path}", 204, 0)
         return reply(204, None)
 
 
-async def quiet(what) -> None:
-    try:
-        await what
-    except Answered:
-        pass
+async def quiet(writing: Awaitable[object]) -> None:
+    with contextlib.suppress(Answered):
+        await writing
+
+
+def what(request: web.BaseRequest, lines: Lines) -> str:
+    """What is asked for, as the journal says it: of a question of nginx what nginx was asked for."""
+    verb, path = request.method, request.raw_path
+    if path == MAY:
+        verb, path = lines.first("Office-Method"), lines.first("Office-Path")
+    return f"{verb} {path}"[:MOST_TOLD]
+
+
+def entry(name: str, request: web.BaseRequest, lines: Lines) -> dict[str, object]:
+    """What the journal says of a request that came to no decision."""
+    return {"name": name, "from": lines.first("Office-From")[:64], "request": what(request, lines)}
 
 
 def method(request: web.BaseRequest) -> None:

@@ -4,6 +4,7 @@ import re
 from collections.abc import Callable, Iterator
 from dataclasses import replace
 from pathlib import Path
+from typing import Any
 from zoneinfo import ZoneInfo, ZoneInfoNotFoundError
 
 from office_gate.access import Access, Grant, Person, Rules
@@ -65,7 +66,7 @@ class Reader:
         self.named: dict[str, list[tuple[int, list[str], tuple[str, ...]]]] = {}
         self.signed: dict[str, str] = {}
         self.rules = Rules()
-        self.once: dict[str, object] = {}
+        self.once: dict[str, Any] = {}
 
     # ---- the statements
 
@@ -177,8 +178,17 @@ class Reader:
         for name in self.signed.keys() - people.keys():
             raise Refused(2, f"{self.path}: '{name}' signs, but no line says which role it is")
         others = people.pop("*", None)
+        self.apart(people)
         return Access(path=self.path, digest=hashlib.sha256(data).hexdigest(), people=people, others=others,
                       rules=self.rules, **self.once)
+
+    def apart(self, people: dict[str, Person]) -> None:
+        """Refuses two names that sign the same text: the office could not tell whose act it was."""
+        signed: dict[str, str] = {}
+        for name, person in people.items():
+            other = signed.setdefault(person.signs, name)
+            if other != name:
+                raise Refused(2, f"{self.path}: '{other}' and '{name}' both sign '{person.signs}'")
 
     def lines(self, data: bytes) -> Iterator[tuple[int, list[str]]]:
         """Gives the words of each line that has any."""

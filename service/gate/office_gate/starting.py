@@ -1,5 +1,6 @@
 """How a gate begins: it finds the end of its journal, and takes what the lines say into what it knows."""
 import asyncio
+from dataclasses import dataclass
 from pathlib import Path
 
 from office_gate import settings
@@ -15,6 +16,18 @@ from office_gate.office import Office
 LEAST_TOKEN = 32
 
 
+@dataclass(frozen=True)
+class Places:
+    """Where a gate has its files."""
+
+    settings: Path
+    journal: Path
+    state: Path
+    token: Path
+    catalogue: Path | None
+    socket: Path | None
+
+
 def token_of(path: Path) -> str:
     """Reads the token that nginx sends with each request."""
     try:
@@ -26,14 +39,13 @@ def token_of(path: Path) -> str:
     return text
 
 
-def opened(paths: dict[str, Path | None], address: str) -> Gate:
+def opened(places: Places, address: str) -> Gate:
     """Opens all parts. The journal's first line is written by `begin`."""
-    access = settings.read(paths["settings"])
-    token = token_of(paths["token"])
-    journal = Journal(paths["journal"], Contents(paths["state"] / "contents"))
+    access = settings.read(places.settings)
+    token = token_of(places.token)
+    journal = Journal(places.journal, Contents(places.state / "contents").make())
     journal.open()
-    return Gate(access, token, journal, Facts(paths["state"] / "facts.db"), Catalogue(paths["catalogue"]),
-                Office(address))
+    return Gate(access, token, journal, Facts(places.state / "facts.db"), Catalogue(places.catalogue), Office(address))
 
 
 async def begin(gate: Gate) -> None:

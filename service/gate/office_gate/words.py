@@ -22,3 +22,5 @@ OF_RECORD = ("set-record-schedule", "confirm", "review", "receipt", "event")
 RUN = ("open-run", "run-step", RESUME)
 DECISIONS = ("confirm", "review", "set-record-schedule", "reclassify", "set-class-schedule")
 """the kinds that decide which records a run takes"""
+GIVES = ("set-record-schedule", "reclassify", "set-class-schedule", "review", "add-record", "add-aggregation", "add-class")
+"""the kinds that give a record, a file or a class its schedule or class"""

@@ -101,6 +101,11 @@ def lists(world: World) -> None:
     refused(world, "the file given, its record confirmed", {"act": "reclassify", "target": "aggregation:1",
                                                             "class": FOREIGN},
             {"act": "confirm", "record": 1, "action": "destroy"}, place=1)
+    # what null gives back counts too
+    world.act("records-manager", {"act": "reclassify", "target": "record:2", "class": MINE})
+    refused(world, "given back by null and confirmed in one list",
+            {"act": "reclassify", "target": "record:2", "class": None}, confirm, place=1)
+    world.act("records-manager", {"act": "reclassify", "target": "record:2", "class": None})
     world.reload(SETTINGS + CLERK)
 
 
@@ -176,6 +181,16 @@ def unknown(world: World) -> None:
         it.unlink()
     world.start_gate()
     refused(world, "after a start, from the journal", filing(8, 3))
+    for damage in (b"no database", None):
+        world.stop_gate()
+        facts = world.state / "facts.db"
+        whole = facts.read_bytes()
+        # or of each page but the first one the half
+        facts.write_bytes(damage or whole[:4096] + b"".join(whole[at:at + 2048] + b"\xff" * 2048
+                                                            for at in range(4096, len(whole), 4096)))
+        world.start_gate()
+        refused(world, "what it had noted is damaged", filing(8, 3))
+        judge("it says so", "is made anew" in (world.folder / "log").read_text())
     same("one's own after a start", world.act("clerk", filing(8, 1))[0], 200)
     refused(world, "a file that nobody knows", filing(9, 40))
     world.stop_gate()

@@ -1,5 +1,8 @@
 """Four eyes: what one name did keeps it from the other step, also by way of a list, a file or a class."""
+import contextlib
 import pathlib
+import sqlite3
+import time
 
 from gate_trial.base import ROLES, filing, made
 from gate_trial.judging import judge, same
@@ -20,6 +23,8 @@ def tried(folder: pathlib.Path) -> None:
     opener(world)
     confirmer(world)
     changer(world)
+    within(world)
+    filer(world)
     reasons(world)
     off(world)
     judge("the chain holds", world.check().returncode == 0, world.check().stderr)
@@ -97,6 +102,38 @@ def changer(world: World) -> None:
     same("carl, who did nothing, opens", world.act("carl", OPEN)[0], 200)
     same("anna carries it out", resume(world, "anna"), 200)
     same("a record that no run takes does not count", world.act("changer0", OPEN)[0], 200)
+    same("anna carries it out", resume(world, "anna"), 200)
+
+
+def moved(world: World, name: str, days: float) -> None:
+    """Lets what a name did be so many days ago, as the gate has noted it."""
+    with contextlib.closing(sqlite3.connect(world.state / "facts.db")) as db, db:
+        db.execute("UPDATE touches SET at = ? WHERE name = ?", (time.time() - days * 86400, name))
+
+
+def within(world: World) -> None:
+    """The rule counts days: thirty, and no more."""
+    world.act("registry", filing(20, 1))
+    record = world.act("registry", filing(21, 1))[1][0]["number"]
+    world.act("carl", {"act": "set-record-schedule", "record": record, "schedule": "D0"})
+    same("berta confirms", world.act("berta", confirm(record))[0], 200)
+    moved(world, "carl", 29.9)
+    eyes(world, "after 29 days and some hours", "carl", "changer-does-not-open", OPEN)
+    moved(world, "carl", 30.1)
+    same("after thirty days and some hours", world.act("carl", OPEN)[0], 200)
+    same("anna carries it out", resume(world, "anna"), 200)
+
+
+def filer(world: World) -> None:
+    """Who files a record with a schedule of its own gave it that one."""
+    record = world.act("carl", filing(30, 1, b"abc", schedule="D0"))[1][0]["number"]
+    same("berta confirms", world.act("berta", confirm(record))[0], 200)
+    eyes(world, "after a filing with a schedule", "carl", "changer-does-not-open", OPEN)
+    same("anna opens", world.act("anna", OPEN)[0], 200)
+    same("berta carries it out", resume(world, "berta"), 200)
+    record = world.act("carl", filing(31, 1))[1][0]["number"]
+    same("berta confirms", world.act("berta", confirm(record))[0], 200)
+    same("a filing without one does not count", world.act("carl", OPEN)[0], 200)
     same("anna carries it out", resume(world, "anna"), 200)
 
 

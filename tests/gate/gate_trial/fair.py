@@ -13,10 +13,17 @@ GREEDY = SETTINGS.replace("limit requests 64", "limit requests 40").replace("lim
 
 def tried(folder: pathlib.Path) -> None:
     world = made(folder, settings=GREEDY)
+    silent = [world.connected(it) for it in (b"", b"POST /acts HT")]
+    began = time.time()
     turns(world)
+    acts(world)
     limits(world)
     slow(world)
     health(world)
+    for link in silent:
+        link.settimeout(60)
+        same("a connection without a head ends", link.recv(100), b"")
+    judge("after ten seconds at least", time.time() - began >= 10)
     world.end()
 
 
@@ -47,6 +54,24 @@ def turns(world: World) -> None:
     done.join()
     names = [it["name"] for it in world.lines()[count:] if it["what"] == "read" and it["status"] == 200]
     judge("the one name is served among the first", "legal" in names and names.index("legal") <= 4, names)
+
+
+def acts(world: World) -> None:
+    """So it is with lists of acts."""
+    count = len(world.lines())
+    world.office.send_signal(19)
+    hold = {"act": "lift-hold", "hold": "NONE"}
+    many = threading.Thread(target=beside, args=(20, lambda _: world.act("legal", hold)))
+    many.start()
+    time.sleep(1)
+    late = threading.Thread(target=world.act, args=("registry", {"act": "close-aggregation", "aggregation": 99}))
+    late.start()
+    time.sleep(0.5)
+    world.office.send_signal(18)
+    late.join()
+    many.join()
+    names = [it["name"] for it in world.lines()[count:] if it["what"] == "asked"]
+    judge("the one name acts among the first", "registry" in names and names.index("registry") <= 3, names)
 
 
 def limits(world: World) -> None:

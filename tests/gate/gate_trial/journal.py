@@ -184,6 +184,10 @@ def readings(world: World) -> None:
     world.ask("auditor", "GET", "/records/1/content")
     same("without readings only the refused one", [it["request"] for it in whole_lines(world)[count:]],
          ["GET /records/1/content"])
+    asked = {"Office-Method": "PUT", "Office-Path": f"/vault/{'b' * 64}"}
+    same("a file for the vault is no reading", (world.ask("registry", "GET", "/may", None, asked)[0],
+                                                whole_lines(world)[-1]["what"], whole_lines(world)[-1]["request"]),
+         (204, "put", f"PUT /vault/{'b' * 64}"))
 
 
 def whole_lines(world: World) -> list[dict]:

@@ -1,6 +1,11 @@
 """What was tried, and whether it held."""
 PASSED: list[str] = []
 FAILED: list[str] = []
+ends_at_first = False
+
+
+class Enough(Exception):
+    """Ends the trial at its first failure."""
 
 
 def judge(name: str, holds: object, seen: object = "") -> None:
@@ -8,6 +13,8 @@ def judge(name: str, holds: object, seen: object = "") -> None:
     (PASSED if holds else FAILED).append(name)
     if not holds:
         print(f"FAILED: {name}\n    {str(seen):.600}", flush=True)
+        if ends_at_first:
+            raise Enough
 
 
 def same(name: str, seen: object, wanted: object) -> None:

@@ -64,6 +64,8 @@ def own(proxy: Proxy) -> None:
     for name, status in (("auditor", 200), ("registry", 200), ("department", 403), ("archive", 403)):
         found = proxy.ask(name, "GET", "/city/catalogue/records.json")
         same(f"the catalogue for {name}", found[0], status)
+        if status == 403:
+            same(f"the word for {name}", found[1], b'{"error":"right"}')
     same("what is in it", proxy.ask("auditor", "GET", "/city/catalogue/records.json")[1], b'{"records":[]}')
     for path in ("/city/catalogue/../records/2", "/city/catalogue/records.json/../../records/2",
                  "/city/catalogue/%2e%2e/may",
@@ -82,8 +84,14 @@ def own(proxy: Proxy) -> None:
                                      ("department", "PUT", f"/city/vault/{'a' * 64}", 403),
                                      ("department", "GET", "/city/records/1/files", 502),
                                      ("department", "GET", "/city/records/2/files", 403),
-                                     ("auditor", "GET", "/city/records/1/files/1", 403)):
-        same(f"{verb} {path} of {name}", proxy.ask(name, verb, path, b"x" if verb == "PUT" else None)[0], status)
+                                     ("auditor", "GET", "/city/records/1/files/1", 403),
+                                     ("registry", "GET", "/city/vault/limits", 502),
+                                     ("auditor", "GET", "/city/vault/limits", 403)):
+        found = proxy.ask(name, verb, path, b"x" if verb == "PUT" else None)
+        same(f"{verb} {path} of {name}", found[0], status)
+        if status == 403:
+            word = "class" if path.startswith("/city/records/2") else "right"
+            same(f"{verb} {path} of {name}: the word", found[1], f'{{"error":"{word}"}}'.encode())
 
 
 def forged(proxy: Proxy, world: World) -> None:

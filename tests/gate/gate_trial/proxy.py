@@ -8,7 +8,7 @@ import ssl
 import subprocess
 import time
 
-from gate_trial.world import TOKEN, TOP, free_port, parted, said
+from gate_trial.world import STARTED, TOKEN, TOP, free_port, parted, said
 
 NGINX = TOP / "service/nginx"
 MODULE = "/usr/lib/nginx/modules/ngx_http_js_module.so"
@@ -59,6 +59,7 @@ class Proxy:
     def start(self) -> None:
         self.process = subprocess.Popen(["nginx", "-c", self.folder / "nginx.conf", "-e",
                                          self.folder / "log/start.log"])
+        STARTED.append(self.process)
         for _ in range(200):
             try:
                 socket.create_connection(("127.0.0.1", self.port), 1).close()

@@ -43,6 +43,7 @@ ACTS = [{"act": "add-schedule", "code": "D0", "trigger": "added", "unit": "days"
 PATHS = {"records": ["/records/1"], "contents": ["/records/1/content"], "certificates": ["/certificates/1"],
          "lists": [f"/due/{today()}", f"/overdue/{today()}/30"], "health": ["/alive", "/metrics"]}
 FILES = {"contents": ["/records/1/files", "/records/1/files/1"], "catalogue": ["/catalogue/records.json"]}
+OBJECT, LIMITS = f"/vault/{'a' * 64}", "/vault/limits"
 
 
 def tried(folder: pathlib.Path) -> None:
@@ -57,7 +58,8 @@ def tried(folder: pathlib.Path) -> None:
         for thing, paths in FILES.items():
             for path in paths:
                 asked(world, role, "GET", path, thing in READS[role])
-        asked(world, role, "PUT", f"/vault/{'a' * 64}", "vault" in MAY[role])
+        asked(world, role, "PUT", OBJECT, "vault" in MAY[role])
+        asked(world, role, "GET", LIMITS, "vault" in MAY[role])
         rights(world, role)
     judge("the chain holds", world.check().returncode == 0, world.check().stderr)
     world.end()
@@ -114,6 +116,9 @@ def asked(world: World, role: str, verb: str, path: str, allowed: bool) -> None:
     """What nginx asks before it gives a file, or takes one."""
     status, _ = world.ask(role, "GET", "/may", None, {"Office-Method": verb, "Office-Path": path})
     same(f"{role}: {verb} {path}", status, 204 if allowed else 403)
+    line = world.last(("put" if verb == "PUT" else "read") if allowed else "refused")
+    same(f"{role}: {verb} {path} is in the journal", (line["name"], line["request"], line["from"]),
+         (role, f"{verb} {path}", "192.0.2.7"))
 
 
 def rights(world: World, role: str) -> None:

@@ -40,6 +40,8 @@ def tried(folder: pathlib.Path) -> None:
         judge(f"without {word}", status == 2 and f"'{word}'" in said, said)
     status, said = checked(place, "zone UTC\nsite https://localhost\nname x signs somebody\n")
     judge("who signs has a role", status == 2 and "'x'" in said, said)
+    status, said = checked(place, f"zone UTC\nsite https://localhost\n{SETTINGS}name legal signs registry\n")
+    judge("two names sign two texts", status == 2 and "both sign 'registry'" in said, said)
     place.write_bytes(b"zone UTC\nsite https://localhost\n# \xff\n")
     judge("no UTF-8", f"{place}:3: " in run("check", str(place))[1])
     judge("a file that is not there", run("check", str(folder / "none"))[0] == 2)
@@ -99,5 +101,6 @@ def changed(world: World) -> None:
     sums = [it["sha256"] for it in world.lines() if it["what"] == "settings"]
     same("the journal has the SHA-256 of each", len(set(sums)), 2)
     same("a name that no line names", json.loads(world.ask("somebody", "GET", "/rights")[1])["acts"], False)
-    world.reload(SETTINGS + "name * is auditor\n")
+    world.reload(SETTINGS + "name * is auditor\nname legal signs L. Egal\nname registry signs else\n")
     same("a line for all other names", world.ask("somebody", "GET", "/records/1")[0], 200)
+    same("but for one that another name signs", world.ask("else", "GET", "/records/1")[0], 403)

@@ -9,7 +9,7 @@ import time
 
 from gate_trial.base import SETTINGS, plan
 from gate_trial.judging import judge, same
-from gate_trial.world import World
+from gate_trial.world import HERE, TOKEN, World, today
 
 ROUNDS = 5
 
@@ -26,7 +26,8 @@ def tried(folder: pathlib.Path) -> None:
     of_the_office(world)
     cut(world)
     of_the_gate(world)
-    same("systemd is told of the end", (world.stop_gate(), notes.has(b"STOPPING=1", ROUNDS + 2)), (0, True))
+    gone(world)
+    same("systemd is told of the end", (world.stop_gate(), notes.has(b"STOPPING=1", ROUNDS + 3)), (0, True))
     judge("the chain holds", world.check().returncode == 0, world.check().stderr)
     world.end()
 
@@ -143,4 +144,25 @@ def of_the_gate(world: World) -> None:
     same("what was under way is answered", answers, [(200, [{"done": True}])])
     same("and is in the journal", [json.loads(it)["what"] for it in world.journal.read_bytes().splitlines()[-2:]],
          ["answered", "closed"])
+    world.start_gate()
+
+
+def gone(world: World) -> None:
+    """A client goes away while its act is at the office: a stop waits for the answer, and the journal has it."""
+    world.office.send_signal(signal.SIGSTOP)
+    body = json.dumps([{"act": "place-hold", "day": today(), "code": "GONE", "reason": "r"}]).encode()
+    lines = {**HERE, "Office-Token": TOKEN, "Office-Name": "legal", "Content-Length": str(len(body))}
+    head = "".join(f"{key}: {value}\r\n" for key, value in lines.items())
+    link = world.connected(f"POST /acts HTTP/1.1\r\n{head}\r\n".encode() + body)
+    while not any(it["what"] == "asked" and it["acts"][0]["code"] == "GONE" for it in world.lines() if "acts" in it):
+        time.sleep(0.05)
+    link.close()
+    time.sleep(0.5)
+    world.gate.send_signal(signal.SIGTERM)
+    time.sleep(1)
+    world.office.send_signal(signal.SIGCONT)
+    same("the gate ends well", world.gate.wait(), 0)
+    world.gate.stdout.close()
+    same("the journal has the answer", [world.last(it).get("answers") for it in ("answered",)], [[{"done": True}]])
+    same("and it is the end", world.lines()[-1]["what"], "closed")
     world.start_gate()

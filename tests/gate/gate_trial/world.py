@@ -10,12 +10,24 @@ import time
 
 TOP = pathlib.Path(__file__).resolve().parents[3]
 OFFICE = os.environ.get("OFFICE") or str(TOP / "out/office")
-GATE = TOP / "service/gate/office-gate"
-JOURNAL = TOP / "service/gate/office-journal"
+SOURCES = pathlib.Path(os.environ.get("GATE_SOURCES") or TOP / "service")
+GATE = SOURCES / "gate/office-gate"
+JOURNAL = SOURCES / "gate/office-journal"
 PYTHON = "/usr/bin/python3"
 TOKEN = "0123456789abcdef" * 4
 HERE = {"Host": "localhost", "Origin": "https://localhost"}
 SITE = "site https://localhost\nzone {zone}\n"
+
+
+STARTED: list[subprocess.Popen[bytes]] = []
+"""what the trial started, to end it however the trial ends"""
+
+
+def end_all() -> None:
+    for it in STARTED:
+        it.kill()
+        it.wait()
+    STARTED.clear()
 
 
 def today(days: int = 0) -> str:
@@ -51,6 +63,7 @@ class World:
     def start_office(self) -> None:
         self.office = subprocess.Popen([OFFICE, "serve", str(self.file), str(self.port), "1000000"],
                                        stdout=subprocess.PIPE, stderr=self.log)
+        STARTED.append(self.office)
         assert self.office.stdout.readline().startswith(b"listening")
 
     def stop_office(self) -> None:
@@ -72,6 +85,7 @@ class World:
         self.gate = subprocess.Popen(self.words(), stdout=subprocess.PIPE, stderr=self.log,
                                      env=os.environ | self.more, close_fds=self.listener is None,
                                      preexec_fn=self.as_systemd if self.listener else None)
+        STARTED.append(self.gate)
         assert self.gate.stdout.readline().startswith(b"listening"), (self.folder / "log").read_text()
 
     def listen(self) -> None:
@@ -111,6 +125,13 @@ class World:
         self.log.close()
 
     # ---- requests
+
+    def connected(self, data: bytes) -> socket.socket:
+        """Connects, sends some bytes, and leaves it at that."""
+        link = socket.socket(socket.AF_UNIX, socket.SOCK_STREAM)
+        link.connect(str(self.place))
+        link.sendall(data)
+        return link
 
     def raw(self, data: bytes, half: bool = False) -> bytes:
         """Sends bytes to the gate, and returns all that come back."""
