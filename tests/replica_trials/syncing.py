@@ -5,9 +5,10 @@ import pathlib
 import re
 import signal
 import subprocess
+import sys
 import time
 
-from replica_trials.cluster import Cluster
+from replica_trials.cluster import REPLICAS, Cluster
 from replica_trials.judging import judge
 from replica_trials.posting import begun, posted, record
 from replica_trials.verdict import same_rows
@@ -38,6 +39,32 @@ def traced(cluster: Cluster, machine: int, number: int) -> list[str]:
     return syncs(file.read_text(errors="replace"))
 
 
+def traced_start(cluster: Cluster, machine: int) -> str:
+    """What a member syncs and renames as it starts, settles, and makes a snapshot."""
+    file, name = cluster.folder / "trace-start", f"member{machine}"
+    cluster.kill(name, how=signal.SIGTERM)
+    cluster.start(name, machine, ["strace", "-D", "-f", "-y", "-e", "trace=fsync,fdatasync,syncfs,rename", "-o", str(file),
+                                  sys.executable, str(REPLICAS / "member"), str(cluster.home(machine) / "settings.json")])
+    cluster.wait_for(machine, cluster.position(1))
+    time.sleep(IDLE_SECONDS)
+    posted(cluster, machine, [record(90)])
+    cluster.make_snapshot(machine)
+    cluster.kill(name, how=signal.SIGTERM)
+    cluster.start_member(machine)
+    return file.read_text(errors="replace")
+
+
+def started(cluster: Cluster) -> None:
+    """A member starts with a settled FILE: the disk has that it is settled no more before the office opens it."""
+    text = traced_start(cluster, 0)
+    found = syncs(text)
+    judge("syncs: a start notes that FILE is not settled, and only after a pause that it is again",
+          found[:1] == ["memo"] and "folder" in found and found[1:].index("memo") > found[1:].index("folder"), found)
+    steps = re.findall(r"\b(?:syncfs\(\d+<[^>]*/(new)>|rename\(\"[^\"]*/(new)\", \"[^\"]*/0\d+\"|syncfs\(\d+<[^>]*/(snapshots)>)", text)
+    judge("syncs: a snapshot is on the disk before it has its name, and the name after that",
+          ["".join(it) for it in steps][-3:] == ["new", "new", "snapshots"], steps)
+
+
 def synced(cluster: Cluster) -> None:
     """A member that does entries after a pause, and pauses again."""
     begun(cluster)
@@ -50,4 +77,5 @@ def synced(cluster: Cluster) -> None:
     office = cluster.office_process(0)
     status = pathlib.Path(f"/proc/{office}/status").read_text()
     judge("syncs: the office has the filter by which it syncs nothing", "\nSeccomp:\t2\n" in status, status)
+    started(cluster)
     same_rows(cluster, "syncs")
