@@ -167,10 +167,10 @@ def older_log(cluster: Cluster) -> None:
             answered.append(reply)
         time.sleep(0.1)
     judge("older log: a member that has done more than the log has answers no act", not answered, answered[:2])
-    judge("older log: and halts", halts(cluster, 0) == 5, cluster.journal("member0")[-300:])
+    judge("older log: and halts", halts(cluster, 0, 30) == 5, cluster.journal("member0")[-300:])
     cluster.kill("member1", how=signal.SIGTERM)
     cluster.start_member(1)
-    judge("older log: so does one that is started", halts(cluster, 1) == 5, cluster.journal("member1")[-300:])
+    judge("older log: so does one that is started", halts(cluster, 1, 60) == 5, cluster.journal("member1")[-300:])
 
 
 def in_question(cluster: Cluster) -> None:
@@ -192,7 +192,7 @@ def in_question(cluster: Cluster) -> None:
     judge("in question: while nobody knows which of two is right neither answers",
           all(it.body == b'{"error":"recovering"}' for it in replies), [cluster.state(it) for it in (0, 1)])
     cluster.start_member(2)
-    judge("in question: once the third decides, the other one halts", halts(cluster, 1) == 5, cluster.journal("member1")[-300:])
+    judge("in question: once the third decides, the other one halts", halts(cluster, 1, 60) == 5, cluster.journal("member1")[-300:])
     cluster.wait_for(0, 0, 120)
     cluster.wait_for(2, cluster.position(0), 120)
     judge("in question: and the two that agree go on", all(posted(cluster, it, [record(1)]).status == 200 for it in (0, 2)))
