@@ -1,7 +1,7 @@
 """The manual pages: office(1) of README.md, and one of each script of its first comment."""
 import re
 
-from making.words import Word, notes, table
+from making.words import Word, notes, statuses, table
 
 FILES = [
     ("/etc/office/NAME.conf", "the port of the office NAME, and its settings"),
@@ -46,16 +46,12 @@ def rows(words: list[Word]) -> list[str]:
     return found
 
 
-def sentences(words: str) -> tuple[str, str]:
-    """The notes, cut at the exit status."""
-    operands, status = words.replace("`./office ", "`office ").split(" The exit status ", 1)
-    return operands, "The exit status " + status
-
-
 def office(version: str, day: str, scripts: list[str]) -> str:
     """office(1), which names the pages of the scripts."""
     words = table()
-    operands, status = sentences(notes())
+    operands = notes().replace("`./office ", "`office ").split(" Standard error ")[0]
+    endings = [line for status, meanings in statuses().items() for line in
+               (".TP", f"\\fB{status}\\fP", inline(". ".join(it[0].upper() + it[1:] for it in meanings)) + ".")]
     lines = [
         f'.TH OFFICE 1 {day} "office {version}" "User Commands"',
         ".SH NAME", "office \\- records disposal office: due days, legal holds, certificates",
@@ -66,7 +62,7 @@ def office(version: str, day: str, scripts: list[str]) -> str:
         "under a legal hold, and leaves a certificate of what happened. An office is one SQLite file.",
         ".SH COMMANDS", *rows(words), ".TP", "\\fBoffice help\\fP", "Shows the commands.",
         ".SH OPERANDS", inline(operands),
-        ".SH EXIT STATUS", inline(status),
+        ".SH EXIT STATUS", *endings,
         ".SH ENVIRONMENT", *[line for name, text in ENVIRONMENT for line in (".TP", f"\\fB{name}\\fP", inline(text))],
         ".SH FILES", *[line for file, text in FILES for line in (".TP", f"\\fI{plain(file)}\\fP", plain(text))],
         ".SH EXAMPLES", ".EX", *map(plain, EXAMPLE.split("\n")), ".EE",

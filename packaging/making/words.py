@@ -1,10 +1,11 @@
-"""The program's words, as README.md has them: its table, and what it says below of operands and the exit status."""
+"""The program's words, as README.md has them: its table, and what it says of operands below; the exit statuses of
+docs/ERRORS.md."""
 import pathlib
 import re
 from typing import NamedTuple
 
 TOP = pathlib.Path(__file__).resolve().parent.parent.parent
-README = TOP / "README.md"
+README, ERRORS = TOP / "README.md", TOP / "docs/ERRORS.md"
 
 
 class Word(NamedTuple):
@@ -41,6 +42,17 @@ def table() -> list[Word]:
 
 
 def notes() -> str:
-    """The paragraph below the table: operands, and the exit status."""
+    """The paragraph below the table: operands."""
     text = README.read_text()
     return text[text.index("| Command | Standard output |"):].split("\n\n")[1].replace("\n", " ")
+
+
+def statuses() -> dict[str, list[str]]:
+    """What each exit status means, in the order of the table."""
+    text = ERRORS.read_text()
+    rows = text[text.index("| Status | Meaning | On standard error |"):].split("\n\n")[0].split("\n")[2:]
+    found: dict[str, list[str]] = {}
+    for row in rows:
+        status, meaning = row.strip("| ").split(" | ")[:2]
+        found.setdefault(status, []).append(meaning)
+    return found

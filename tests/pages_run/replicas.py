@@ -262,6 +262,7 @@ ROWS = [
     Row("apt-get", skip="the packages are there"),
     Row("office-replicas-setup", skip="tests/replicas_package calls it"),
     Row("office-replicas-renew", skip="tests/replicas_package calls it"),
+    Row("/usr/lib/office-replicas/certificates", skip="tests/replicas_package calls it"),
     Row("systemctl disable", skip="without systemd"),
     Row("./office install /usr/local/bin"),
     Row("adduser"),

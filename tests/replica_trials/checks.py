@@ -191,8 +191,10 @@ def log_faults(entries: list[Entry], traffic: Traffic) -> list[str]:
         if entry is None or (entry.key, entry.kind, entry.body) != (post.key, post.kind, post.body):
             faults.append(f"not in the log at its position: {post}")
     answered = {post.key for post in traffic.posts}
-    lost = collections.Counter(traffic.lost)
+    lost, not_taken = collections.Counter(traffic.lost), set(traffic.not_taken)
     for entry in entries:
+        if entry.body in not_taken:
+            faults.append(f"its client was told that this is not in the log: {entry}")
         if entry.key not in answered:
             if lost[entry.body] < 1:
                 faults.append(f"an entry that nobody asked for, or one done twice: {entry}")
@@ -209,4 +211,30 @@ def order_faults(posts: list[Post]) -> list[str]:
             at += 1
         if post.position <= highest:
             faults.append(f"{post.position} began after {highest} was answered")
+    return faults
+
+
+def stale(traffic: Traffic, limit: int) -> list[str]:
+    """Readings that lack what was answered before: more than the told age before a plain one, and before a newest one;
+    those that tell an age above the limit; and those that go back in time for one reader at one member."""
+    faults: list[str] = []
+    ended, at, highest, had = sorted(traffic.posts, key=lambda it: it.ended), 0, 0, []
+    for post in ended:
+        highest = max(highest, post.position)
+        had.append((post.ended, highest))
+    moments = sorted(((it.began - (0 if it.mode == "newest" else it.age + 0.05), it) for it in traffic.reads),
+                     key=lambda it: it[0])
+    known = 0
+    for moment, read in moments:
+        while at < len(had) and had[at][0] < moment:
+            known, at = had[at][1], at + 1
+        if read.position < known:
+            faults.append(f"{read.mode} at {read.position}, but {known} was answered before {moment:.2f}: {read}")
+        if read.mode != "any" and read.age > limit + 1:
+            faults.append(f"older than the limit: {read}")
+    last: dict[tuple[int, int], int] = {}
+    for read in traffic.reads:
+        if read.position < last.get((read.reader, read.machine), 0):
+            faults.append(f"back in time: {read}")
+        last[read.reader, read.machine] = read.position
     return faults

@@ -17,6 +17,8 @@ from replica_trials.networks import socket_in
 
 TOP = pathlib.Path(__file__).resolve().parent.parent.parent
 OFFICE = str(pathlib.Path(os.environ.get("OFFICE", TOP / "crates/office/out/office")).resolve())
+REPLICAS = pathlib.Path(os.environ.get("REPLICAS", TOP / "replicas")).resolve()
+"""the program of a member"""
 LONGEST_WAIT = 900
 FAULTS = (OSError, http.client.HTTPException, ValueError)
 
@@ -170,12 +172,12 @@ class Cluster:
 
     def start_member(self, machine: int) -> None:
         self.start(f"member{machine}", machine,
-                   [sys.executable, str(TOP / "replicas" / "member"),
+                   [sys.executable, str(REPLICAS / "member"),
                     str(self.home(machine) / "settings.json")])
 
     def found(self, file: pathlib.Path | None = None) -> None:
         """Begins the log at machine 0, and copies its snapshots to the others."""
-        words = [sys.executable, str(TOP / "replicas" / "found"),
+        words = [sys.executable, str(REPLICAS / "found"),
                  str(self.home(0) / "settings.json"), *([str(file)] if file else [])]
         network = self.network(0)
         prefix = [] if network is None else ["nsenter", f"--net=/run/netns/{network}", "--"]

@@ -11,7 +11,7 @@ import threading
 import time
 import uuid
 
-from replica_trials import age, faults, history, moving, programs, requests, syncing, together
+from replica_trials import age, faults, going_back, history, late, moving, programs, requests, syncing, together
 from replica_trials.checks import Archivist
 from replica_trials.cluster import TOP, Cluster, ask
 from replica_trials.judging import judge
@@ -175,11 +175,7 @@ def wrong_file(cluster: Cluster) -> None:
     begun(cluster)
     time.sleep(3)
     cluster.kill("member2", how=signal.SIGTERM)
-    database = sqlite3.connect(cluster.file(2))
-    database.execute("UPDATE records SET title = 'Another'")
-    database.commit()
-    database.execute("PRAGMA wal_checkpoint(TRUNCATE)").fetchall()
-    database.close()
+    going_back.change_file(cluster, 2)
     cluster.start_member(2)
     cluster.wait_for(2)
     for number in range(25):
@@ -268,15 +264,17 @@ def units(cluster: Cluster) -> None:
     same_rows(cluster, "units")
 
 
-TRIALS = {"no_quorum": no_quorum, "same_answers": same_answers, "full_disk": faults.full_disk, "full_etcd":
-          faults.full_etcd, "no_memory": faults.no_memory, "damaged_file": faults.damaged_file,
-          "flipped_byte": faults.flipped_byte, "away": away, "upgrade": upgrade, "wrong_file": wrong_file,
-          "secured": secured, "units": units, "isolated": age.isolated, "seen": age.seen, "hanging":
-          age.hanging, "replaced": programs.replaced, "assumed_disk": programs.assumed_disk,
-          "slow_snapshot": programs.slow_snapshot, "undoable": programs.undoable, "refused":
-          programs.refused, "moved": moving.moved, "one_name": moving.one_name, "gone": moving.gone,
-          "together": together.together, "synced": syncing.synced, "history": history.history, "at_rest":
-          history.at_rest}
+TRIALS = {
+    "no_quorum": no_quorum, "same_answers": same_answers, "full_disk": faults.full_disk, "full_etcd":
+    faults.full_etcd, "no_memory": faults.no_memory, "damaged_file": faults.damaged_file, "flipped_byte":
+    faults.flipped_byte, "away": away, "upgrade": upgrade, "wrong_file": wrong_file, "secured": secured,
+    "units": units, "isolated": age.isolated, "seen": age.seen, "hanging": age.hanging, "replaced":
+    programs.replaced, "assumed_disk": programs.assumed_disk, "slow_snapshot": programs.slow_snapshot,
+    "undoable": programs.undoable, "refused": programs.refused, "moved": moving.moved, "one_name":
+    moving.one_name, "gone": moving.gone, "together": together.together, "synced": syncing.synced, "history":
+    history.history, "at_rest": history.at_rest, "old_key": history.old_key, "other_body": history.other_body,
+    "late": late.late, "half_done": going_back.half_done, "never_back": going_back.never_back, "older_log":
+    going_back.older_log, "in_question": going_back.in_question}
 
 
 def run(folder: pathlib.Path, kills: int) -> None:

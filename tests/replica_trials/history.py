@@ -53,6 +53,34 @@ def history(cluster: Cluster) -> None:
     same_rows(cluster, "history")
 
 
+def old_key(cluster: Cluster) -> None:
+    """A request whose entry has left the log is asked again: by its key it gets the first answer, and is not done again."""
+    begun(cluster)
+    first = posted(cluster, 0, [record(70)], "old-1")
+    for number in (1, 2):
+        posted(cluster, number, [record(900 + number)])
+        for machine in range(3):
+            cluster.wait_for(machine, cluster.position(0))
+            cluster.make_snapshot(machine)
+    took = until_dropped(cluster, f"{first.position:016d}", 120)
+    tail, replies = cluster.position(0), [posted(cluster, it, [record(70)], "old-1") for it in range(3)]
+    judge("old key: a key whose entry has left the log gets the first answer at each member",
+          took < 120 and all((it.status, it.body, it.position) == (first.status, first.body, first.position)
+                             for it in replies), (first, replies))
+    judge("old key: and is no entry again", cluster.position(0) == tail)
+    same_rows(cluster, "old key")
+
+
+def other_body(cluster: Cluster) -> None:
+    """A key that is used again for something else is an error at each member, and nothing is done."""
+    begun(cluster)
+    posted(cluster, 0, [record(70)], "other-1")
+    tail, replies = cluster.position(0), [posted(cluster, it, [record(71)], "other-1") for it in range(3)]
+    judge("other body: a known key with another body is 422, and no entry",
+          all(it[::2] == (422, b'{"error":"key"}') for it in replies) and cluster.position(0) == tail, replies)
+    same_rows(cluster, "other body")
+
+
 def at_rest(cluster: Cluster) -> None:
     """An office in which nothing is done any more: its members make the snapshots that are owed by themselves."""
     cluster.settings.update(snapshot_seconds=6)

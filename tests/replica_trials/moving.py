@@ -11,7 +11,7 @@ import time
 
 from replica_trials.acts import BEGIN, as_body
 from replica_trials.checks import Bare
-from replica_trials.cluster import TOP, Cluster
+from replica_trials.cluster import REPLICAS, Cluster
 from replica_trials.judging import judge
 from replica_trials.posting import begun, get, halts, posted, record
 from replica_trials.verdict import same_rows
@@ -19,7 +19,7 @@ from replica_trials.verdict import same_rows
 
 def found(cluster: Cluster, machine: int, *words: str | pathlib.Path) -> tuple[int, str]:
     """The status of `found` with these words, and what it said."""
-    done = subprocess.run([sys.executable, TOP / "replicas/found", cluster.home(machine) / "settings.json", *words],
+    done = subprocess.run([sys.executable, REPLICAS / "found", cluster.home(machine) / "settings.json", *words],
                           capture_output=True, text=True, check=False)
     return done.returncode, done.stdout + done.stderr
 

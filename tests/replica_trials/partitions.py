@@ -15,7 +15,7 @@ from typing import Callable
 
 from replica_trials import networks
 from replica_trials.acts import BEGIN
-from replica_trials.checks import Archivist
+from replica_trials.checks import Archivist, stale
 from replica_trials.cluster import Cluster
 from replica_trials.judging import judge
 from replica_trials.networks import Drop
@@ -146,32 +146,6 @@ class Nemesis:
         self.killed("member")
 
 
-def stale(traffic: Traffic) -> list[str]:
-    """Readings that lack what was answered before: more than the told age before a plain one, and before a newest one;
-    those that tell an age above the limit; and those that go back in time for one reader at one member."""
-    faults: list[str] = []
-    ended, at, highest, had = sorted(traffic.posts, key=lambda it: it.ended), 0, 0, []
-    for post in ended:
-        highest = max(highest, post.position)
-        had.append((post.ended, highest))
-    moments = sorted(((it.began - (0 if it.mode == "newest" else it.age + 0.05), it) for it in traffic.reads),
-                     key=lambda it: it[0])
-    known = 0
-    for moment, read in moments:
-        while at < len(had) and had[at][0] < moment:
-            known, at = had[at][1], at + 1
-        if read.position < known:
-            faults.append(f"{read.mode} at {read.position}, but {known} was answered before {moment:.2f}: {read}")
-        if read.mode != "any" and read.age > AGE_LIMIT + 1:
-            faults.append(f"older than the limit: {read}")
-    last: dict[tuple[int, int], int] = {}
-    for read in traffic.reads:
-        if read.position < last.get((read.reader, read.machine), 0):
-            faults.append(f"back in time: {read}")
-        last[read.reader, read.machine] = read.position
-    return faults
-
-
 def run(folder: pathlib.Path, kills: int) -> None:
     networks.make(NETWORKS, "10.77.0.")
     cluster = Cluster(folder / "partitions", 24000, networks=NETWORKS, age_limit=AGE_LIMIT, snapshot_every=500)
@@ -187,11 +161,11 @@ def run(folder: pathlib.Path, kills: int) -> None:
         traffic.stop()
         took = time.monotonic() - began
         judge(f"partitions: {nemesis.done.total()} faults of {len(nemesis.done)} kinds, each of the {len(nemesis.kinds)}",
-              len(nemesis.done) == len(nemesis.kinds), dict(nemesis.done), always=True)
+              len(nemesis.done) == len(nemesis.kinds) or time.monotonic() > until, dict(nemesis.done), always=True)
         joined = sum(number(cluster, it, "joined_entries_total") for it in range(3))
         judge("partitions: entries were joined", joined > 0, f"{joined} at the last processes of the members", always=True)
         whole(cluster, traffic, log, "partitions", all_kinds=False)
-        found = stale(traffic)
+        found = stale(traffic, AGE_LIMIT)
         judge(f"partitions: none of {len(traffic.reads):,} readings lacks what was answered before its age",
               len(traffic.reads) > 0 and not found, "\n    ".join([str(len(found)), *found[:5]]))
         print(f"partitions: {took:.0f} seconds; ages of readings up to {max(it.age for it in traffic.reads):.0f} s")

@@ -11,7 +11,7 @@ import subprocess
 import sys
 import time
 
-from replica_trials.cluster import OFFICE, TOP, Cluster, ask
+from replica_trials.cluster import OFFICE, REPLICAS, Cluster, ask
 from replica_trials.judging import judge
 from replica_trials.posting import begun, get, halts, post, posted, record
 from replica_trials.verdict import same_rows
@@ -147,6 +147,10 @@ def undoable(cluster: Cluster) -> None:
     replies = [get(cluster, it, "/records/1", Office_Read="any") for it in range(3)]
     judge("undoable: after some failures each member reads the state before it, and says why",
           all(it.status == 200 and it.position == position for it in replies), [cluster.state(it) for it in range(3)])
+    wait_blocked(cluster, (0, 1, 2))
+    promises = [cluster.home(it) / "promised" for it in range(3)]
+    judge("undoable: what each promises the others is on its own disk",
+          all(it.exists() and it.read_text() == str(position + 1) for it in promises))
     replies = [ask(cluster.place(it), "GET", "/replica") for it in range(3)]
     judge("undoable: /replica has status 503", all(it.status == 503 for it in replies), replies)
     reply = post(cluster, 1, [record(5)])
@@ -157,12 +161,15 @@ def undoable(cluster: Cluster) -> None:
     reply = posted(cluster, 2, acts, "undoable-1")
     judge("undoable: with room it is done, once, by itself",
           reply.status == 200 and reply.position == position + 1 and b"same" not in reply.body, reply)
+    status, said = refuse(cluster, position + 1)
+    judge("undoable: each member has taken its promise back before that, so nobody refuses the entry any more",
+          status == 1 and "not promised by m0, m1, m2" in said, said)
     same_rows(cluster, "undoable")
 
 
 def refuse(cluster: Cluster, position: int) -> tuple[int, str]:
     """The status of `refuse`, and what it said."""
-    done = subprocess.run([sys.executable, TOP / "replicas/refuse", cluster.home(0) / "settings.json", str(position)],
+    done = subprocess.run([sys.executable, REPLICAS / "refuse", cluster.home(0) / "settings.json", str(position)],
                           capture_output=True, text=True, check=False)
     return done.returncode, done.stdout + done.stderr
 

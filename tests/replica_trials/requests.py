@@ -11,7 +11,7 @@ from typing import Any
 
 from replica_trials.acts import BEGIN, NOT_ACTS
 from replica_trials.checks import Bare
-from replica_trials.cluster import TOP, Cluster, Reply, ask
+from replica_trials.cluster import REPLICAS, Cluster, Reply, ask
 from replica_trials.judging import judge
 from replica_trials.posting import post, posted, record
 
@@ -126,7 +126,7 @@ WRONG: list[tuple[dict[str, Any], str]] = [
 
 def run_member(word: str, path: pathlib.Path) -> tuple[int, str]:
     """The status of `member` or `found` with these settings, and what it said."""
-    done = subprocess.run([sys.executable, TOP / "replicas" / word, path], capture_output=True,
+    done = subprocess.run([sys.executable, REPLICAS / word, path], capture_output=True,
                           text=True, timeout=120, check=False)
     return done.returncode, done.stderr
 

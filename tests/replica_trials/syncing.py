@@ -5,9 +5,10 @@ import pathlib
 import re
 import signal
 import subprocess
+import sys
 import time
 
-from replica_trials.cluster import Cluster
+from replica_trials.cluster import REPLICAS, Cluster
 from replica_trials.judging import judge
 from replica_trials.posting import begun, posted, record
 from replica_trials.verdict import same_rows
@@ -38,6 +39,33 @@ def traced(cluster: Cluster, machine: int, number: int) -> list[str]:
     return syncs(file.read_text(errors="replace"))
 
 
+def traced_start(cluster: Cluster, machine: int) -> tuple[str, str]:
+    """What a member syncs and renames until it is settled after its start, and until it has made a snapshot."""
+    file, name = cluster.folder / "trace-start", f"member{machine}"
+    cluster.kill(name, how=signal.SIGTERM)
+    cluster.start(name, machine, ["strace", "-D", "-f", "-y", "-e", "trace=fsync,fdatasync,syncfs,rename", "-o", str(file),
+                                  sys.executable, str(REPLICAS / "member"), str(cluster.home(machine) / "settings.json")])
+    cluster.wait_for(machine, cluster.position(1))
+    time.sleep(IDLE_SECONDS)
+    before = file.read_text(errors="replace")
+    posted(cluster, machine, [record(90)])
+    cluster.make_snapshot(machine)
+    cluster.kill(name, how=signal.SIGTERM)
+    cluster.start_member(machine)
+    return before, file.read_text(errors="replace")
+
+
+def started(cluster: Cluster) -> None:
+    """A member starts with a settled FILE: the disk has that it is settled no more before the office opens it."""
+    before, text = traced_start(cluster, 0)
+    found = syncs(before)
+    judge("syncs: a start notes that FILE is not settled, and after a pause that it is again",
+          found[:1] == ["memo"] and found[-3:] == ["FILE", "folder", "memo"], found)
+    steps = re.findall(r"\b(?:syncfs\(\d+<[^>]*/(new)>|rename\(\"[^\"]*/(new)\", \"[^\"]*/0\d+\"|syncfs\(\d+<[^>]*/(snapshots)>)", text)
+    judge("syncs: a snapshot is on the disk before it has its name, and the name after that",
+          ["".join(it) for it in steps][-3:] == ["new", "new", "snapshots"], steps)
+
+
 def synced(cluster: Cluster) -> None:
     """A member that does entries after a pause, and pauses again."""
     begun(cluster)
@@ -50,4 +78,5 @@ def synced(cluster: Cluster) -> None:
     office = cluster.office_process(0)
     status = pathlib.Path(f"/proc/{office}/status").read_text()
     judge("syncs: the office has the filter by which it syncs nothing", "\nSeccomp:\t2\n" in status, status)
+    started(cluster)
     same_rows(cluster, "syncs")

@@ -13,6 +13,8 @@ from replica_trials.acts import NOT_ACTS, Act, Maker, as_body
 from replica_trials.cluster import FAULTS, Cluster, Place, Reply, ask
 
 RETRY_SECONDS = 0.05
+NOTHING_PUT = ("quorum", "recovering", "busy", "full")
+"""errors that say that this try put nothing into the log"""
 
 
 @dataclass
@@ -53,7 +55,9 @@ class Traffic:
         self.cluster, self.maker, self.seed = cluster, Maker(), seed
         self.posts: list[Post] = []
         self.lost: list[bytes] = []
-        """bodies of requests without a key that were not answered"""
+        """bodies of requests without a key that may be in the log"""
+        self.not_taken: list[bytes] = []
+        """and of those whose clients were told that they are not"""
         self.keyless = 0
         self.reads: list[Read] = []
         self.faults: list[str] = []
@@ -175,8 +179,9 @@ class Traffic:
             reply = None
         if reply is None or reply.status == 503:
             self.count("without a key, not answered")
+            told = "" if reply is None else json.loads(reply.body).get("error")
             with self.lock:
-                self.lost.append(body)
+                (self.not_taken if told in NOTHING_PUT else self.lost).append(body)
             time.sleep(RETRY_SECONDS)
             return
         self.note(Post(reply.lines.get("idempotency-key", "-"), "acts", body, began, time.time(),

@@ -86,5 +86,5 @@ def whole(cluster: Cluster, traffic: Traffic, log: Archivist, what: str,
     told = [it for it in answers if it.status == 400]
     print(f"{what}: {tail:,} entries, {sum(kinds.values()):,} acts accepted, {len(told)} bodies "
           f"that are no acts, {traffic.keyless:,} requests without a key, {len(traffic.lost)} of "
-          f"them not answered; {sum(it.tries > 1 for it in traffic.posts):,} with a key tried "
+          f"them perhaps done, {len(traffic.not_taken)} surely not; {sum(it.tries > 1 for it in traffic.posts):,} with a key tried "
           f"again; tries that failed: {dict(traffic.tries)}")

@@ -1,0 +1,100 @@
+"""A member to which its etcd's answers come late, or never: it tells no age that is too small, and nobody is told that
+nothing is in the log while something may be."""
+from __future__ import annotations
+
+import json
+import random
+import signal
+import threading
+import time
+
+from replica_trials.checks import stale
+from replica_trials.cluster import FAULTS, Cluster, ask
+from replica_trials.doors import Door
+from replica_trials.judging import judge
+from replica_trials.posting import begun, post, posted, record
+from replica_trials.traffic import Read, Traffic
+from replica_trials.verdict import same_rows
+
+LATE_SECONDS = 2.0
+LIMIT = 30
+# seconds between two entries, and how long they come
+PACES = [(0.3, 20), (2.5, 30)]
+
+
+def through_door(cluster: Cluster, machine: int) -> Door:
+    """The member of a machine reaches its etcd through a door from now on."""
+    port = cluster.base + 90
+    door = Door(port, cluster.port(machine, "client"), LATE_SECONDS)
+    cluster.kill(f"member{machine}", how=signal.SIGTERM)
+    path = cluster.write_settings(machine)
+    path.write_text(json.dumps({**json.loads(path.read_text()), "etcd": f"127.0.0.1:{port}"}))
+    cluster.start_member(machine)
+    cluster.wait_for(machine, cluster.position(0))
+    return door
+
+
+def read(cluster: Cluster, traffic: Traffic, reader: int, stopping: threading.Event) -> None:
+    """Reads at member 2, plainly or the newest, and notes what it got."""
+    source = random.Random(reader)
+    while not stopping.wait(0.05):
+        mode, began = "plain" if source.random() < 0.95 else "newest", time.time()
+        try:
+            reply = ask(cluster.place(2), "GET", "/records/1", None, {"Office-Read": mode} if mode == "newest" else {})
+        except FAULTS:
+            continue
+        if reply.status == 200:
+            traffic.reads.append(Read("/records/1", 200, reply.body, reply.position, mode, 0,
+                                      float(reply.lines["office-age"]), began, reader, 2))
+
+
+def late(cluster: Cluster) -> None:
+    """Etcd's answers reach member 2 two seconds late, while acts come at another member; then its questions alone pass."""
+    begun(cluster)
+    door, traffic, stopping = through_door(cluster, 2), Traffic(cluster, 1, 0, 0), threading.Event()
+    readers = [threading.Thread(target=read, args=(cluster, traffic, it, stopping), daemon=True) for it in range(4)]
+    for reader in readers:
+        reader.start()
+    for pause, seconds in PACES:
+        until = time.monotonic() + seconds
+        while time.monotonic() < until:
+            traffic.entry_at(0, time.time())
+            time.sleep(pause)
+    stopping.set()
+    for reader in readers:
+        reader.join(60)
+    found = stale(traffic, LIMIT)
+    judge(f"late: none of {len(traffic.reads):,} readings lacks what was answered before its age",
+          len(traffic.reads) > 100 and not found, "\n    ".join([str(len(found)), *found[:5]]), always=True)
+    unanswered(cluster, door)
+
+
+def unanswered(cluster: Cluster, door: Door) -> None:
+    """Etcd takes an entry, and its answer is lost; then it is no more reached either."""
+    door.seconds, door.is_silent = 0, True
+    reply = post(cluster, 2, [record(50)], "late-1")
+    judge("late: of an entry whose confirmation is lost the client is told `unknown`",
+          reply.body == b'{"error":"unknown"}', reply)
+    door.is_silent = False
+    first = posted(cluster, 0, [record(50)], "late-1")
+    judge("late: and it is in the log, once", posted(cluster, 2, [record(50)], "late-1")[::2] == first[::2], first)
+    door.is_silent = True
+    told: list[bytes] = []
+    client = threading.Thread(target=lambda: told.append(post(cluster, 2, [record(51)], "late-2").body))
+    client.start()
+    began = time.monotonic()
+    while not has_key(cluster, "late-2") and time.monotonic() - began < 30:
+        time.sleep(0.05)
+    door.close()
+    client.join(60)
+    judge("late: so is one of an entry whose confirmation is lost, and whose next try is refused",
+          told == [b'{"error":"unknown"}'], told)
+    cluster.kill("member2", how=signal.SIGTERM)
+    cluster.write_settings(2)
+    cluster.start_member(2)
+    same_rows(cluster, "late")
+
+
+def has_key(cluster: Cluster, key: str) -> bool:
+    """Whether the log has an entry with this key."""
+    return bool(cluster.etcdctl(0, "get", f"/office/city/keys/{key}").stdout)
