@@ -2,8 +2,9 @@
 import { get } from "./ask.js";
 import { classOf, indexOf, treeOf } from "./plain/catalogue.js";
 import { Details } from "./plain/details.js";
-import { aggregationOrder, isOfDetails, recordOrder } from "./plain/finding.js";
+import { TEXTS, aggregationOrder, isOfDetails, recordOrder } from "./plain/finding.js";
 import { jsonOf } from "./plain/outcomes.js";
+import { foldedText, orderOfLines } from "./text_work.js";
 
 /** The moment of what was read, or null where nothing was; what `about` says; its parts and what is made of them. */
 let moment = null;
@@ -94,6 +95,9 @@ export const records = () => ofPart("records", "records", recordIndex);
 export const aggregations = () => ofPart("aggregations", "aggregations", aggregationIndex);
 export const tree = () => ofPart("tree", "aggregations", treeOf);
 
+/** Makes ready what a search for words goes through: a search that comes before this is done waits for it. */
+export const makeReady = (index) => index.ready(foldedText);
+
 /** What the office reports of each record beside that: days, class, schedule, length, due day and hold; null if it is not there. */
 export async function details() {
   const coded = await Promise.all(["classes", "schedules", "holds"].map((name) => part(name)));
@@ -122,9 +126,11 @@ export const numbered = async (name, number) => (await part(name))?.[number - 1]
 export async function recordsBy(column) {
   if (!column || column === "number") return null;
   const index = await records();
-  if (!isOfDetails(column)) return ofPart(`records by ${column}`, "records", () => recordOrder(index, null, column));
+  const key = `records by ${column}`;
+  if (column in TEXTS) return ofPart(key, "records", (rows) => orderOfLines(rows.map(TEXTS[column]).join("\n")));
+  if (!isOfDetails(column)) return ofPart(key, "records", () => recordOrder(index, null, column));
   const known = await details();
-  return ofPart(`records by ${column}`, "details", () => recordOrder(index, known, column));
+  return ofPart(key, "details", () => recordOrder(index, known, column));
 }
 
 /** The same of aggregations. */

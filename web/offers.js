@@ -1,5 +1,5 @@
 // Codes and numbers of the catalogue, offered in the fields of all forms. Without a catalogue nothing is offered.
-import { aggregations, isThere, part, records, refresh } from "./catalogue.js";
+import { aggregations, isThere, makeReady, part, records, refresh } from "./catalogue.js";
 import { made } from "./page.js";
 import { search } from "./plain/catalogue.js";
 import { visible } from "./plain/marks.js";
@@ -49,8 +49,9 @@ function offersOf(rows, text, of) {
 }
 
 /** Those whose numbers begin with the text, then those whose ref or title has it. */
-function numbered(index, text, of) {
+async function numbered(index, text, of) {
   if (!index) return [];
+  await makeReady(index);
   const { rows } = index;
   const begun = [];
   if (/^[1-9]\d*$/.test(text)) {

@@ -16,8 +16,15 @@ READER, READS = "reader", "reads alone"
 MANY = 40
 # each day and each code that is seen is on one line
 BROKEN = """
-return Array.from(document.querySelectorAll("section:not([hidden]) .day"))
+return Array.from(document.querySelectorAll("section:not([hidden]) :is(.day, .entries a)"))
   .filter((node) => node.checkVisibility() && node.getClientRects().length > 1).map((node) => node.textContent)
+"""
+LONG = "BLDG-INQUIRY/2021/0241"
+LINES_OF_REF = """
+const rows = Array.from(document.querySelectorAll("#due-table tbody tr"));
+const range = document.createRange();
+range.selectNodeContents(rows.find(({ cells }) => cells[2].firstChild.data === arguments[0]).cells[2].firstChild);
+return new Set(Array.from(range.getClientRects(), (it) => Math.round(it.top))).size;
 """
 SEEN = "const it = arguments[0].getBoundingClientRect(); return it.bottom <= innerHeight + 1 && it.top >= 0"
 # the request for the server's time waits until it is let go
@@ -99,6 +106,14 @@ def marks(story: Story) -> None:
     it.settled()
     it.wait(lambda: it.seen("#due-answer"), "no answer comes")
     says("due: what is marked after the press is not confirmed", it.seen("#due-answer"), "Confirmed: 1 of 1.")
+
+
+def refs(story: Story) -> None:
+    """A long ref is on one line of Due, with its title below it."""
+    town.send(story.office, [town.record(after(0), LONG, 1)])
+    it = story.browser
+    it.open(f"{story.proxy.page}#due?day={after(800)}")
+    same("due: a ref of 22 letters is on one line", it.driver.execute_script(LINES_OF_REF, LONG), 1)
 
 
 def days(story: Story) -> None:
@@ -209,6 +224,12 @@ def certificates(story: Story) -> None:
     same("certificate: the last one leads to the one before alone", [a.text for a in it.all("#certificate-others a")], ["Run 2"])
     says("certificate: what was skipped before is folded", it.text("#certificate-tables summary"), "Skipped as in run 2: ")
     says("certificate: and is on paper", printed(it, story.folder), "LET/1")
+    it.open(f"{story.proxy.page}#record?number=14")
+    says("record: of what is transferred it does not say that this is all", it.seen("#record-words"), "what the office reports of it")
+    it.open(f"{story.proxy.page}#certificate?number=2")
+    it.wait(lambda: it.all("#certificate-tables .entries"), "no entries come")
+    says("certificate: a record that a hold kept has the hold's code", it.text("#certificate-tables .entries"), town.HELD)
+    same("certificate: which is on one line", it.driver.execute_script(BROKEN), [])
 
 
 def clock(story: Story) -> None:
@@ -255,7 +276,7 @@ def tell(office: Office, proxy: Proxy, browser_: Browser, folder: pathlib.Path) 
     town.fill(office)
     town.renew(proxy, office)
     story = Story(office, proxy, browser_, folder)
-    for trap in (hold_on_paper, stale, marks, days, receipt, record, manifest, looks, certificates, clock, cards, reader):
+    for trap in (hold_on_paper, stale, marks, refs, days, receipt, record, manifest, looks, certificates, clock, cards, reader):
         try:
             trap(story)
         except Exception as error:  # noqa: BLE001 -- one trap that the page still has keeps no other one from being tried

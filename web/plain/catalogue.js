@@ -1,9 +1,19 @@
 // The catalogue: a search over many refs and titles, and the tree of aggregations with what is in it.
 
-const foldedPart = (part) => part.normalize("NFD").replace(/\p{M}/gu, "").replaceAll("ß", "ss");
+/** What becomes of each letter beyond ASCII, once it was looked up: a city's texts have few of them, each many times. */
+const LETTERS = new Map();
+
+function foldedLetter(letter) {
+  let known = LETTERS.get(letter);
+  if (known === undefined) {
+    known = letter.normalize("NFD").replace(/\p{M}/gu, "").replaceAll("ß", "ss");
+    LETTERS.set(letter, known);
+  }
+  return known;
+}
 
 /** A text as it is searched: without case and accents, ß as ss. */
-export const folded = (text) => text.toLowerCase().replace(/[^\u0000-\u007f]+/g, foldedPart);
+export const folded = (text) => text.toLowerCase().replace(/[^\u0000-\u007f]/gu, foldedLetter);
 
 /** The words of a question, the longest first, which is the rarest as a rule. */
 function wordsOf(question) {
@@ -11,14 +21,11 @@ function wordsOf(question) {
   return words.sort((one, other) => other.length - one.length);
 }
 
-/** So many rows become text at a time, so that the page answers meanwhile. */
-const SLICE = 20000;
-
 /** Many rows as one long text, a line a row, so that a word is looked for in all of them at once. It is made once it is wanted. */
 export class Index {
   #textOf;
-  #slices = [];
   #text = null;
+  #coming = null;
   #starts = null;
 
   /**
@@ -30,20 +37,22 @@ export class Index {
     this.#textOf = textOf;
   }
 
-  /** Makes a part of the text: whether more is to be made. */
-  warm() {
-    const at = this.#slices.length * SLICE;
-    if (this.#text !== null || at >= this.rows.length) return false;
-    this.#slices.push(folded(`${this.rows.slice(at, at + SLICE).map(this.#textOf).join("\n")}\n`));
-    return at + SLICE < this.rows.length;
+  #lines() {
+    return `${this.rows.map(this.#textOf).join("\n")}\n`;
+  }
+
+  /**
+   * Has the text made by a function that takes its time, as in a worker.
+   * @param {function(string): Promise<string>} fold
+   */
+  async ready(fold) {
+    if (this.#text !== null) return;
+    this.#coming ??= fold(this.#lines());
+    this.#text = await this.#coming;
   }
 
   get text() {
-    if (this.#text === null) {
-      while (this.warm());
-      this.#text = this.#slices.join("");
-      this.#slices = [];
-    }
+    this.#text ??= folded(this.#lines());
     return this.#text;
   }
 

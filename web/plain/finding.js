@@ -20,11 +20,17 @@ export const NO_DUE = "none";
 /** The columns that a list of records may be ordered by. */
 export const RECORD_COLUMNS = ["number", "ref", "title", "aggregation", "class", "schedule", "due", "status"];
 
+/** The columns of texts, which are ordered as they are searched. */
+export const TEXTS = {
+  ref: ([, ref]) => ref,
+  title: ([, , title]) => title,
+};
+
 /** What a record is ordered by; other columns are of the details. */
 const KEYS = {
   number: ([number]) => number,
-  ref: ([, ref]) => folded(ref),
-  title: ([, , title]) => folded(title),
+  ref: (row) => folded(TEXTS.ref(row)),
+  title: (row) => folded(TEXTS.title(row)),
   aggregation: ([, , , aggregation]) => aggregation,
   status: ([, , , , status]) => status,
 };
@@ -84,6 +90,9 @@ export function orderOf(keys) {
   });
   return order;
 }
+
+/** The order of lines of text, in which each row is one. */
+export const lineOrder = (lines) => orderOf(folded(lines).split("\n"));
 
 /** The order of all records by a column. */
 export function recordOrder({ rows }, details, column) {

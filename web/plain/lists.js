@@ -36,7 +36,8 @@ function takes(row, name, wanted) {
 
 /** The rows that each filter takes. */
 export function filtered(rows, filter) {
-  const wanted = Object.entries(filter);
+  const wanted = Object.entries(filter).filter(([, value]) => value !== "");
+  if (!wanted.length) return rows;
   return rows.filter((row) => wanted.every(([name, value]) => takes(row, name, value)));
 }
 
@@ -69,20 +70,24 @@ export function grouped(rows, keyOf) {
 /** Each value of a filter with how many rows have it, by value. */
 export function choices(rows, name) {
   const counts = new Map();
-  for (const row of rows) counts.set(valueOf(row, name), (counts.get(valueOf(row, name)) ?? 0) + 1);
-  return [...counts].sort(([one], [other]) => compared(one, other));
+  for (const row of rows) {
+    const value = valueOf(row, name);
+    const own = counts.get(value);
+    if (own) own.count += 1;
+    else counts.set(value, { count: 1 });
+  }
+  return [...counts].map(([value, { count }]) => [value, count]).sort(([one], [other]) => compared(one, other));
 }
 
+/** What rows add up to, counted in one pass: a list may have as many of them as the office has records. */
 export function totals(rows) {
-  const count = (holds) => rows.filter(holds).length;
-  return {
-    count: rows.length,
-    destroy: count((row) => row.action === "destroy"),
-    transfer: count((row) => row.action === "transfer"),
-    review: count((row) => row.action === "review"),
-    held: count((row) => row.held !== null),
-    confirmed: count((row) => row.confirmed),
-  };
+  const sums = { count: rows.length, destroy: 0, transfer: 0, review: 0, held: 0, confirmed: 0 };
+  for (const row of rows) {
+    sums[row.action] += 1;
+    if (row.held !== null) sums.held += 1;
+    if (row.confirmed) sums.confirmed += 1;
+  }
+  return sums;
 }
 
 /**
@@ -113,6 +118,7 @@ export const AS_SHOWN = [...CONFIRMED_FOR, "confirmed"];
  *   now, or null if there is none, and the names of what differs
  */
 export function changed(rows, others, names = AS_SHOWN) {
+  if (!rows.length) return [];
   const there = new Map(others.map((row) => [row.record, row]));
   const differences = (row, now) => (now ? names.filter((name) => row[name] !== now[name]) : []);
   const compare = (row) => ({ row, now: there.get(row.record) ?? null, names: differences(row, there.get(row.record)) });
@@ -122,5 +128,7 @@ export function changed(rows, others, names = AS_SHOWN) {
 /** How many rows of the due list of a day are overdue: unconfirmed, and due more than so many days before that day. */
 export function overdueAmong(rows, day, count) {
   const before = daysBefore(day, count);
-  return rows.filter((row) => !row.confirmed && row.due < before).length;
+  let found = 0;
+  for (const row of rows) if (!row.confirmed && row.due < before) found += 1;
+  return found;
 }

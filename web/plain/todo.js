@@ -13,17 +13,16 @@ const monthsBefore = (day, count) => dueDay(day, { unit: "months", count: -count
  *   confirmed and is kept by a hold
  */
 export function dueTasks(rows) {
-  const count = (takes) => rows.filter(takes).length;
-  const isReady = (row) => row.confirmed && (row.held === null || row.action === "transfer");
-  return {
-    toConfirm: count((row) => canBeConfirmed(row) && !row.confirmed && row.held === null),
-    toReview: count((row) => row.action === "review"),
-    ready: {
-      destroy: count((row) => isReady(row) && row.action === "destroy"),
-      transfer: count((row) => isReady(row) && row.action === "transfer"),
-    },
-    heldBack: count((row) => row.confirmed && row.action === "destroy" && row.held !== null),
-  };
+  const tasks = { toConfirm: 0, toReview: 0, ready: { destroy: 0, transfer: 0 }, heldBack: 0 };
+  for (const row of rows) {
+    const isFree = row.held === null;
+    if (!canBeConfirmed(row)) tasks.toReview += 1;
+    else if (!row.confirmed) tasks.toConfirm += isFree ? 1 : 0;
+    // a hold keeps from destruction, not from sending
+    else if (isFree || row.action === "transfer") tasks.ready[row.action] += 1;
+    else tasks.heldBack += 1;
+  }
+  return tasks;
 }
 
 /**

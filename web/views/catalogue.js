@@ -1,5 +1,5 @@
 // The catalogue: records and aggregations, searched as one types; classes, schedules, holds and runs as lists.
-import { aboutIt, lastAnswer, part, records, refresh } from "../catalogue.js";
+import { aboutIt, lastAnswer, makeReady, part, records, refresh } from "../catalogue.js";
 import { serverNow } from "../clock.js";
 import { asking, byId, failed, grouped, link, made, paragraph, quiet, say } from "../page.js";
 import { isDay, today } from "../plain/forms.js";
@@ -105,8 +105,7 @@ function tellCounts() {
 function tellMarks() {
   const found = foundOf();
   if (!found) return;
-  const among = found.marks.among(found.numbers());
-  const words = { count: grouped(found.marks.size), hidden: grouped(found.marks.size - among) };
+  const words = { count: grouped(found.marks.size), hidden: grouped(found.marks.size - found.marked) };
   byId("catalogue-marked").textContent = t("catalogue.marked", words);
   byId("catalogue-panel").hidden = found.marks.size === 0;
   byId("catalogue-panel").classList.toggle("marking", found.marks.size > 0);
@@ -130,7 +129,7 @@ function sortBy(column) {
 /** The table of what is found, with its first rows. */
 function tableOf(found) {
   const it = found.tableFor(asked, sortBy);
-  it.show(found.rowsAt(found.found), FIRST);
+  it.show(found.found, FIRST);
   return it.table;
 }
 
@@ -201,12 +200,13 @@ function tellTools() {
 async function fillDetails(mine) {
   if (asked.part !== "records" || !(await FOUND.records.readDetails()) || mine !== turn) return;
   const { shown } = FOUND.records;
-  FOUND.records.table?.show(FOUND.records.rowsAt(FOUND.records.found), Math.max(shown, FIRST));
+  FOUND.records.table?.show(FOUND.records.found, Math.max(shown, FIRST));
 }
 
-/** Makes ready bit by bit what a search for words goes through, so that the first key is answered at once. */
-function warm(index) {
-  if (index?.warm()) setTimeout(() => warm(index), 20);
+/** Makes ready what a search for words goes through, so that the first key is answered at once. */
+async function warm() {
+  const index = await records();
+  if (index) await makeReady(index);
 }
 
 /** Shows what is asked for now. What was asked for before and comes later is not shown any more. */
@@ -228,7 +228,8 @@ async function draw() {
   place.replaceChildren(...tell());
   tellTools();
   await fillDetails(mine);
-  if (asked.part === "records") warm(await records());
+  // once the rows were drawn
+  if (asked.part === "records") setTimeout(warm, 20);
 }
 
 /** Looks for what is written and chosen by now. */

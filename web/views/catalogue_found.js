@@ -1,5 +1,5 @@
 // What is found in the catalogue's records or aggregations: its filters, its order, its table and what is marked of it.
-import { aggregations, aggregationsBy, details, part, records, recordsBy, tree, years } from "../catalogue.js";
+import { aggregations, aggregationsBy, details, makeReady, part, records, recordsBy, tree, years } from "../catalogue.js";
 import { byId, grouped, made, save } from "../page.js";
 import { STATUSES, above, classOf } from "../plain/catalogue.js";
 import { csvOf, formulasIn } from "../plain/csv.js";
@@ -67,6 +67,7 @@ function aggregationCells(it, order) {
 class Found {
   found = [];
   #table = null;
+  #asked = 0;
 
   constructor(name, changed) {
     this.name = name;
@@ -84,9 +85,21 @@ class Found {
     return this.#table;
   }
 
+  /** Begins to find something: a function that says whether nothing else was asked for since then. */
+  begun() {
+    this.#asked += 1;
+    const mine = this.#asked;
+    return () => mine === this.#asked;
+  }
+
   /** The numbers of all that is found. */
   numbers() {
     return this.found.map((at) => at + 1);
+  }
+
+  /** How many of these are marked. */
+  get marked() {
+    return this.marks.size ? this.marks.among(this.numbers()) : 0;
   }
 
   /** How many rows are in the table; where nothing is found there is none. */
@@ -106,6 +119,7 @@ export class FoundRecords extends Found {
     return {
       columns: RECORD_COLUMNS,
       sorted: RECORD_COLUMNS,
+      rowsAt: (positions) => this.rowsAt(positions),
       cells: (it) => recordCells(it, this.#order),
       number: ({ row }) => row[0],
     };
@@ -116,16 +130,23 @@ export class FoundRecords extends Found {
     return positions.map((at) => ({ row: this.rows[at], detail: this.details?.at(at) ?? NO_DETAILS }));
   }
 
-  /** Finds what is asked for: whether it could. What needs no details is found before they are there. */
+  /**
+   * Finds what is asked for: whether it could, and nothing else was asked for meanwhile. What needs no details is found
+   * before they are there.
+   */
   async find(asked) {
+    const isWanted = this.begun();
     const index = await records();
     this.#order = await tree();
     const waits = wantsDetails(asked) || isOfDetails(asked.sort);
     const known = waits ? await details() : null;
     if (!index || !this.#order || (waits && !known)) return false;
+    if (asked.text) await makeReady(index);
+    const order = await recordsBy(asked.sort);
+    if (!isWanted()) return false;
     this.details = known ?? this.details ?? null;
     this.rows = index.rows;
-    this.found = findRecords(index, known, asked, await recordsBy(asked.sort), asked.isDown);
+    this.found = findRecords(index, known, asked, order, asked.isDown);
     return true;
   }
 
@@ -179,6 +200,7 @@ export class FoundAggregations extends Found {
     return {
       columns: ["number", "ref", "title", "within", "class", "closed", "counts"],
       sorted: AGGREGATION_COLUMNS,
+      rowsAt: (positions) => this.rowsAt(positions),
       cells: (it) => aggregationCells(it, this.#order),
       number: ({ number }) => number,
     };
@@ -189,12 +211,15 @@ export class FoundAggregations extends Found {
   }
 
   async find(asked) {
+    const isWanted = this.begun();
     const index = await aggregations();
     this.#order = await tree();
     if (!index || !this.#order) return false;
+    const order = await aggregationsBy(asked.sort);
+    if (!isWanted()) return false;
     this.rows = index.rows;
     const classIn = (it) => classOf(this.#order, it);
-    this.found = findAggregations(index, asked, classIn, await aggregationsBy(asked.sort), asked.isDown);
+    this.found = findAggregations(index, asked, classIn, order, asked.isDown);
     return true;
   }
 

@@ -15,6 +15,7 @@ const cell = (content, at) =>
  * @property {string} part the part of the catalogue, which is the table's class too
  * @property {string[]} columns by name
  * @property {string[]} sorted those that the rows may be ordered by
+ * @property {function(number[]): any[]} rowsAt the rows at these positions
  * @property {function(any): any[]} cells the cells of a row
  * @property {function(any): number} number
  * @property {import("../plain/selection.js").Selection} marks
@@ -23,7 +24,7 @@ const cell = (content, at) =>
 
 export class FoundTable {
   #kind;
-  #rows = [];
+  #positions = [];
   #turn = 0;
 
   /** @param {Found} kind */
@@ -74,17 +75,17 @@ export class FoundTable {
 
   /** Puts in groups up to so many rows. */
   #fill(most) {
-    while (this.shown < Math.min(most, this.#rows.length)) {
-      const next = this.#rows.slice(this.shown, Math.min(this.shown + GROUP, most));
+    while (this.shown < Math.min(most, this.#positions.length)) {
+      const next = this.#kind.rowsAt(this.#positions.slice(this.shown, Math.min(this.shown + GROUP, most)));
       this.table.append(made("tbody", { role: "rowgroup" }, ...next.map((row) => this.#nodeOf(row))));
       this.shown += next.length;
     }
   }
 
-  /** Shows the first rows of these. */
-  show(rows, most) {
+  /** Shows the first of the rows at these positions. */
+  show(positions, most) {
     this.#turn += 1;
-    this.#rows = rows;
+    this.#positions = positions;
     this.shown = 0;
     for (const group of [...this.table.tBodies]) group.remove();
     this.#fill(most);
@@ -97,7 +98,7 @@ export class FoundTable {
     const step = () => {
       if (mine !== this.#turn) return;
       this.#fill(Math.min(most, this.shown + GROUP * MORE));
-      const isDone = this.shown >= Math.min(most, this.#rows.length);
+      const isDone = this.shown >= Math.min(most, this.#positions.length);
       this.table.toggleAttribute("aria-busy", !isDone);
       told();
       if (!isDone) setTimeout(step);

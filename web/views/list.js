@@ -109,7 +109,7 @@ export class RecordList {
   #tellChoices() {
     for (const name of this.kind.filters) {
       const values = choices(this.rows, name).filter(([value]) => value !== "");
-      const held = this.rows.filter((row) => row.held !== null).length;
+      const held = values.reduce((sum, [, count]) => sum + count, 0);
       const more = name === "held" ? [[ANY_HOLD, t("due.held"), held], [NO_HOLD, t("due.free"), this.rows.length - held]] : [];
       const found = [...more, ...values.map(([value, count]) => [value, this.#choiceWord(name, value), count])];
       // a filter that no row of this list meets is still told
@@ -126,7 +126,7 @@ export class RecordList {
   #draw() {
     const rows = sorted(filtered(this.rows, this.filter), this.column, this.down);
     const groups = this.#groupsOf?.(rows) ?? [{ rows }];
-    this.shown = groups.flatMap((it) => it.rows);
+    this.shown = this.#groupsOf ? groups.flatMap((it) => it.rows) : rows;
     this.#isShort = false;
     this.#table.show(groups);
     this.#table.tellOrder(this.column || this.kind.order, this.down);
@@ -220,7 +220,7 @@ export class RecordList {
   // ---- marks
 
   #tellMarks() {
-    const shown = this.shown.filter((row) => this.marks.has(row.record)).length;
+    const shown = this.marks.size ? this.shown.filter((row) => this.marks.has(row.record)).length : 0;
     this.part("marked").textContent = t("due.marked", { count: this.marks.size, hidden: this.marks.size - shown });
     const rows = this.#toConfirm();
     this.part("submit").textContent = t("due.submit", { count: rows.length });
@@ -269,7 +269,7 @@ export class RecordList {
   }
 
   markedRows() {
-    return this.rows.filter((row) => this.marks.has(row.record));
+    return this.marks.size ? this.rows.filter((row) => this.marks.has(row.record)) : [];
   }
 
   /** What is marked and can be confirmed: what is to be reviewed may be marked too, and stays so. */

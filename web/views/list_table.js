@@ -7,9 +7,11 @@ import { t } from "../texts.js";
 
 // So many rows are in one group. A browser lays out only the groups that are in sight (office.css), and all to print.
 const GROUP = 100;
-// so many groups come before anything else, and so many at a time after them
-const FIRST = 2;
-const MORE = 30;
+// so many rows come before anything else, and so many at a time after them: a high window shows fewer than the first ones
+const FIRST = 50;
+const MORE = 2000;
+// so many groups stay in the page while another view is seen
+const KEPT = 2;
 
 const cell = (name, ...children) => made(name, { role: name === "th" ? "rowheader" : "cell" }, ...children);
 
@@ -65,6 +67,18 @@ function fillMark(cell, row, marked) {
   box.setAttribute("aria-label", word("due.markRow").replace("{record}", row.record));
 }
 
+/** The rows in pieces, each for one group of the table; a heading is over the first piece of its rows. */
+function piecesOf(groups) {
+  const pieces = [];
+  for (const { heading, rows } of groups) {
+    for (let at = 0; at < rows.length; at += pieces.at(-1).rows.length) {
+      const size = pieces.length ? GROUP : FIRST;
+      pieces.push({ heading: at === 0 ? heading : undefined, rows: rows.slice(at, at + size) });
+    }
+  }
+  return pieces;
+}
+
 /** The actions of what is due, as CSS has them: their column has room for each of their words. */
 const actionWords = () => JSON.stringify(["destroy", "transfer", "review"].map((it) => word(`actions.${it}`)).join(" "));
 
@@ -74,7 +88,7 @@ const boxOf = (row) => row.firstChild.querySelector("input");
 export const recordOf = (box) => Number(box.closest("tr").cells[1].textContent);
 
 export class ListTable {
-  /** The rows that are made, by record; which records are marked; the groups that still want their rows. */
+  /** The rows that are made, by record; which records are marked; the pieces that are not in the table yet. */
   #nodes = new Map();
   #isMarked = () => false;
   #wanting = [];
@@ -151,9 +165,16 @@ export class ListTable {
     }
   }
 
-  /** Puts the rows into so many of the groups that want them. */
-  #fill(count) {
-    for (const [group, rows] of this.#wanting.splice(0, count)) group.append(...rows.map((row) => this.#nodeOf(row)));
+  /** Puts in pieces, until these have so many rows. */
+  #fill(most) {
+    let [count, filled] = [0, 0];
+    for (; count < this.#wanting.length && filled < most; count += 1) {
+      const { heading, rows } = this.#wanting[count];
+      const nodes = rows.map((row) => this.#nodeOf(row));
+      this.table.append(made("tbody", { role: "rowgroup" }, ...(heading ? [heading] : []), ...nodes));
+      filled += rows.length;
+    }
+    this.#wanting.splice(0, count);
     this.table.toggleAttribute("aria-busy", this.#wanting.length > 0);
   }
 
@@ -166,28 +187,21 @@ export class ListTable {
 
   /** Puts in all rows at once, as to be printed. */
   finish() {
-    this.#fill(this.#wanting.length);
+    this.#fill(Infinity);
   }
 
   /** Takes all but the first rows out of the page: a browser lays out a long list anew when its view is seen again. */
   shorten() {
     this.#wanting = [];
     this.table.removeAttribute("aria-busy");
-    for (const group of [...this.table.tBodies].slice(FIRST)) group.remove();
+    for (const group of [...this.table.tBodies].slice(KEPT)) group.remove();
   }
 
   /** Shows these rows, in this order; each group of them below its heading, where they have such. */
   show(groups) {
-    this.#wanting = [];
     this.table.classList.toggle("grouped", groups.some(({ heading }) => heading));
-    for (const { heading, rows } of groups) {
-      for (let at = 0; at < rows.length; at += GROUP) {
-        const body = made("tbody", { role: "rowgroup" }, ...(heading && at === 0 ? [heading] : []));
-        this.#wanting.push([body, rows.slice(at, at + GROUP)]);
-      }
-    }
     for (const group of [...this.table.tBodies]) group.remove();
-    this.table.append(...this.#wanting.map(([group]) => group));
+    this.#wanting = piecesOf(groups);
     this.#fill(FIRST);
     const these = this.#wanting;
     // once the first ones were drawn

@@ -99,10 +99,10 @@ async function look() {
   const day = today();
   const answers = await Promise.all([get(`due/${day}`), get(`overdue/${day}/${USUAL_DAYS}`), refresh()]);
   if (mine !== asked) return;
-  const wrong = answers.slice(0, 2).find((answer) => answer.status !== 200 || !Array.isArray(jsonOf(answer)));
+  const [due, overdue] = answers.slice(0, 2).map((answer) => (answer.status === 200 ? jsonOf(answer) : undefined));
+  const wrong = !Array.isArray(due) ? answers[0] : !Array.isArray(overdue) ? answers[1] : null;
   byId("todo-there").hidden = Boolean(wrong);
   if (wrong) return failed(place, wrong);
-  const [due, overdue] = answers.slice(0, 2).map(jsonOf);
   const empty = await isEmpty(due);
   const months = Number(byId("todo-months").value);
   const waiting = await catalogueTasks({ todo: await part("todo"), runs: await part("runs"), holds: await part("holds"), tree: await tree() }, day, months);
