@@ -26,7 +26,7 @@ use Rattle.office_http.specs.Requests.{Request, IsRequest, nothing, headless, as
 use Rattle.office_http.specs.declared.failure.Failure.TheVariants as failure
 use Rattle.office_http.specs.declared.path_request.PathRequest.TheVariants as path
 use Rattle.office_http.specs.declared.status.Status.{Status}
-use Rattle.office_wire.specs.Answering.{Answers, IsUnavailable, PerformsAsked, Reports, Resumes, acts_reply, content_reply}
+use Rattle.office_wire.specs.Answering.{Answers, IsUnavailable, PerformsActs, Reports, Resumes, acts_reply, content_reply}
 use Rattle.office_wire.specs.Exchanges.{AreExchanged, IsExchanged, none, one_more}
 use Rattle.office_wire.specs.Replies.{acts_response, answer_response, content_response, fault_response, json_response, stopped_response}
 use Rattle.office_wire.specs.Serving.{IsReply, IsReplied, IsServed, Replies}
@@ -62,7 +62,7 @@ module _ {S : Type 0} (g : Ghosts S) (t : State) (d : DeskState S) (r : Response
   )
   outcome_well done (stopped told f) is leads came = absurd (stopped_is r told f well is)
 
-  acts_well : (asked : Result (List Act) NoActs) → PerformsAsked (λ reported. r ≡ reported) g t asked d → (r ≡ acts_answer t asked) × IsAt g (after_asked t asked) d
+  acts_well : (asked : Result (List Act) NoActs) → PerformsActs (λ reported. r ≡ reported) g t asked d → (r ≡ acts_answer t asked) × IsAt g (after_asked t asked) d
   acts_well (Ok done) it = outcome_well done it.outcome it.reported it.leads it.came
   acts_well (Err not_json) it = it
   acts_well (Err (bad_act place why)) it = it
