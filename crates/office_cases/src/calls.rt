@@ -246,9 +246,9 @@ fn is_held(alloc: Global, holds: &Holds, tree: &Tree) -> bool {
     holds.held(tree, 1) && covering.is_some() && refusal.is_none()
 }
 
-/// `office_proof`: a line and a certificate.
-fn certificate(alloc: Global, tree: &Tree, due: DueDay, day: Day) -> Option<()> {
-    let entry = Entry {
+/// The entry of a record that a run destroyed.
+fn destroyed(alloc: Global, due: DueDay) -> Option<Entry> {
+    Some(Entry {
         run: 1,
         record_no: 1,
         outcome: Outcome::read("destroyed")?,
@@ -257,10 +257,26 @@ fn certificate(alloc: Global, tree: &Tree, due: DueDay, day: Day) -> Option<()> 
         due,
         confirmed_by: text(alloc, "registrar")?,
         hold: None,
-    };
-    let line: String = entry_line(alloc, &entry, &head(alloc, day)?).ok()?;
+    })
+}
+
+/// `office_proof`: the line of an entry.
+fn line(alloc: Global, entry: &Entry, day: Day) -> Option<String> {
+    let head = head(alloc, day)?;
+    entry_line(alloc, entry, &head).ok()
+}
+
+/// `office_proof`: a certificate with that entry.
+fn body(alloc: Global, tree: &Tree, entry: &Entry, day: Day) -> Option<String> {
     let by = text(alloc, "registrar")?;
-    let body: String = certificate_text(alloc, tree, 1, day, &by, &[&entry], &[]).ok()?;
+    certificate_text(alloc, tree, 1, day, &by, &[entry], &[]).ok()
+}
+
+/// `office_proof`: a certificate has the line of its entry.
+fn certificate(alloc: Global, tree: &Tree, due: DueDay, day: Day) -> Option<()> {
+    let entry = destroyed(alloc, due)?;
+    let line: String = line(alloc, &entry, day)?;
+    let body: String = body(alloc, tree, &entry, day)?;
     body.contains(line.as_str()).then_some(())
 }
 
@@ -296,12 +312,17 @@ fn decided(alloc: Global, tree: &mut Tree, day: Day) -> Option<()> {
     close_aggregation(tree, day)
 }
 
+/// The calls on holds over a tree, and of certificates.
+fn over(alloc: Global, tree: &Tree, due: DueDay, day: Day) -> Option<()> {
+    held(alloc, tree, day)?;
+    certificate(alloc, tree, due, day)
+}
+
 /// The calls on a tree, on holds over it, and of certificates.
 pub(crate) fn parts(alloc: Global) -> Option<()> {
     let day = days()?;
     let mut tree = Tree::new(alloc);
     let due = filed(alloc, &mut tree, day)?;
-    held(alloc, &tree, day)?;
-    certificate(alloc, &tree, due, day)?;
+    over(alloc, &tree, due, day)?;
     decided(alloc, &mut tree, day)
 }

@@ -8,6 +8,7 @@ use office_proof::Entry;
 use office_records::{Action, Classified, RecordNo, Target, Trigger};
 use office_rules::Intake;
 use std::alloc::Global;
+use std::ops::Range;
 
 fn add_schedule(alloc: Global, day: Day) -> Option<Act> {
     Some(Act::AddSchedule {
@@ -198,19 +199,33 @@ fn number_of(office: &mut Machine, act: &Act) -> Option<u32> {
     }
 }
 
-/// What is read of the office in memory.
-fn reading(office: &Machine, day: Day) -> Option<RecordNo> {
+/// What is due and overdue: nothing.
+fn due(office: &Machine, day: Day) -> Option<()> {
     let due: Vec<RecordNo> = office.due_list(day).ok()?;
     let overdue: Vec<RecordNo> = office.overdue_list(day, ConfirmDays::new(30)?).ok()?;
-    let view: RecordView = office.record(1).ok()??;
+    (due.is_empty() && overdue.is_empty()).then_some(())
+}
+
+/// What runs have left: nothing.
+fn runs(office: &Machine) -> Option<()> {
     let ending: Option<Entry> = office.entry_of(1).ok()?;
     let entries: Vec<Entry> = office.entries().ok()?;
+    (ending.is_none() && entries.is_empty()).then_some(())
+}
+
+/// What a run would take, and its certificate: there is none.
+fn run(office: &Machine) -> Option<()> {
     let body: Option<String> = office.certificate(1).ok()?;
     let next: (Option<RecordNo>, u32) = office.next_counted();
-    let is_new = ending.is_none() && entries.is_empty() && body.is_none() && next.1 == 0;
-    if !is_new || !due.is_empty() || !overdue.is_empty() || office.next_in_run().is_some() {
-        return None;
-    }
+    (body.is_none() && next.1 == 0 && office.next_in_run().is_none()).then_some(())
+}
+
+/// What is read of the office in memory.
+fn reading(office: &Machine, day: Day) -> Option<RecordNo> {
+    due(office, day)?;
+    runs(office)?;
+    run(office)?;
+    let view: RecordView = office.record(1).ok()??;
     Some(view.number)
 }
 
@@ -221,16 +236,32 @@ fn built(alloc: Global, day: Day) -> Result<Machine, Rebuild> {
     builder.finish()
 }
 
-/// The calls of the office in memory: each kind of act is decided, and done where it may be.
+/// The act of that place is decided, and done where it may be.
+fn act_on(alloc: Global, office: &mut Machine, day: Day, place: usize) -> Option<u32> {
+    let act = act(alloc, day, place)?;
+    number_of(office, &act)
+}
+
+/// The acts of these places, one after another.
+fn acts_on(alloc: Global, office: &mut Machine, day: Day, places: Range<usize>) -> Option<()> {
+    for place in places {
+        act_on(alloc, office, day, place)?;
+    }
+    Some(())
+}
+
+/// The calls on an office in memory: each kind of act is decided, and done where it may be.
+fn office(alloc: Global, office: &mut Machine, day: Day) -> Option<()> {
+    acts_on(alloc, office, day, 0..5)?;
+    reading(office, day)?;
+    acts_on(alloc, office, day, 5..18)
+}
+
+/// The calls of the office in memory.
 pub(crate) fn machine(alloc: Global) -> Option<()> {
     let day = Day::read("2024-01-02")?;
-    let mut office = Machine::new(alloc);
-    for place in 0..18 {
-        number_of(&mut office, &act(alloc, day, place)?)?;
-        if place == 4 {
-            reading(&office, day)?;
-        }
-    }
+    let mut new = Machine::new(alloc);
+    office(alloc, &mut new, day)?;
     built(alloc, day).ok()?;
     Some(())
 }

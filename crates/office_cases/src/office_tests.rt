@@ -371,15 +371,19 @@ fn addition(alloc: Global, day: Day, name: &str) -> Option<Act> {
     })
 }
 
+/// Adds the record of that place to aggregation 1, and reports what is answered.
+fn add_record(office: &mut Machine, place: u32, out: &mut Vec<u8>) -> Option<()> {
+    let alloc = *out.allocator();
+    let name = format!(in alloc; "r{place}").ok()?;
+    let act = addition(alloc, Day::read("2024-01-02")?, name.as_str())?;
+    perform(office, &act, out)
+}
+
 /// Adds so many records to aggregation 1, and reports what is answered to the last.
 fn add_records(office: &mut Machine, count: u32, out: &mut Vec<u8>) -> Option<()> {
-    let alloc = *out.allocator();
-    let day = Day::read("2024-01-02")?;
     for place in 0..count {
-        let name = format!(in alloc; "r{place}").ok()?;
-        let act = addition(alloc, day, name.as_str())?;
         out.clear();
-        perform(office, &act, out)?;
+        add_record(office, place, out)?;
     }
     Some(())
 }
