@@ -1,5 +1,5 @@
 -- Steps of a reader that goes on only where it was given something.
-use Rattle.std.proofs.Common.{◌≡◌, ◌≢◌, ℕ, zero, suc, List, [], ◌∷◌, get_or, map, Option, Some, None, Result, Ok, Err, refl, sym, ap, subst, ◌∙◌, Bor}
+use Rattle.std.proofs.Common.{◌≡◌, ℕ, zero, suc, List, [], ◌∷◌, get_or, map, Option, Some, None, Result, Ok, Err, refl, sym, ap, subst, ◌∙◌, Bor}
 use Rattle.std.specs.Option.{ok_or}
 use Rattle.std.specs.Option.{option_copied}
 use Rattle.std.specs.Prelude.{IsErrAnd, MatchResult}

@@ -1,5 +1,5 @@
 -- Which lines of a certificate are those of its entries and of its spent aggregations, and what its first lines report.
-use Rattle.std.proofs.Common.{◌≡◌, ℕ, ◌<◌, ◌≤◌, arith, Bool, true, false, cond, List, [], ◌∷◌, ◌++◌, codes, filter, get_or, length, map, refl, sym, ap, ◌∙◌, append-nil, Bor}
+use Rattle.std.proofs.Common.{◌≡◌, ℕ, ◌≤◌, arith, Bool, true, false, cond, List, [], ◌∷◌, ◌++◌, codes, filter, get_or, length, map, refl, ap, ◌∙◌, append-nil}
 use Rattle.std.specs.Prelude.{nat_eq}
 use Rattle.std.specs.Fmt.{decimal}
 use Rattle.std.specs.List.{starts_with}

@@ -1,5 +1,5 @@
 -- The lines of one kind, picked one after another: what is left of them, and of the things that they were written of.
-use Rattle.std.proofs.Common.{◌≡◌, ℕ, zero, suc, ◌+◌, ◌<◌, ◌≤◌, Bool, true, false, cond, List, [], ◌∷◌, ◌++◌, drop, filter, get_or, length, map, refl, sym, ap, subst, ◌∙◌, append_assoc, append-nil, arith, Bor}
+use Rattle.std.proofs.Common.{◌≡◌, ℕ, ◌+◌, ◌<◌, ◌≤◌, Bool, true, false, cond, List, [], ◌∷◌, ◌++◌, drop, filter, get_or, length, map, refl, sym, ap, subst, ◌∙◌, append_assoc, append-nil, arith, Bor}
 use Rattle.std.specs.List.{All, Contains}
 use Rattle.std.proofs.lemmas.List.{drop_all, drop_more}
 use Rattle.std.proofs.lemmas.List.Elements.{All-contains, Contains-append_right}
@@ -58,10 +58,10 @@ module _ {A : Type 0} (test : List ℕ → Bool) (form : A → List ℕ) (P : A 
   -- and it is read
   pub read_next : (lines : List Line) (i : ℕ) (line : List ℕ) (read them now : List A) (x : A) → (it : IsNext lines i line read them) → x ≡ it.next → now ≡ read ++ x ∷ [] → IsLeft lines (i + 1) now them
   read_next lines i line read them now x it same pushed = (
-      it.rest,
-      it.them_are ∙ sym (append_assoc read (it.next ∷ []) it.rest) ∙ ap (λ (xs : List A). xs ++ it.rest) (ap (λ (y : A). read ++ y ∷ []) (sym same) ∙ sym pushed),
-      it.left_are,
-    )
+    it.rest,
+    it.them_are ∙ sym (append_assoc read (it.next ∷ []) it.rest) ∙ ap (λ (xs : List A). xs ++ it.rest) (ap (λ (y : A). read ++ y ∷ []) (sym same) ∙ sym pushed),
+    it.left_are,
+  )
 
   -- before the first line and after the last
   pub at_first : (lines : List Line) (them : List A) → filter test (map (λ (line : Line). line.now) lines) ≡ map form them → IsLeft lines 0 [] them

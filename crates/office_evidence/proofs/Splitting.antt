@@ -1,8 +1,8 @@
 -- The text of a certificate, parted at its line feeds, gives its lines; the line of an entry, parted at its tabs, its words.
-use Rattle.std.proofs.Common.{◌≡◌, ◌≢◌, ◌==◌, ℕ, zero, suc, ◌<◌, Bool, true, false, List, [], ◌∷◌, ◌++◌, filter, map, length, codes, Option, Some, None, refl, sym, ap, ◌∙◌, append_assoc, arith}
+use Rattle.std.proofs.Common.{◌≡◌, ◌≢◌, ◌==◌, ℕ, true, false, List, [], ◌∷◌, ◌++◌, filter, map, length, codes, refl, sym, ap, ◌∙◌, append_assoc, arith}
 use Rattle.std.proofs.lemmas.Bool.Decides.{nat_tests}
 use Rattle.std.proofs.lemmas.List.Concat.{flat_map-append}
-use Rattle.std.proofs.lemmas.List.Elements.{All-nil, All-cons, All-append, All-contains, All-head, All-map, All-tail, All-weaker, All-from_recursion}
+use Rattle.std.proofs.lemmas.List.Elements.{All-nil, All-cons, All-append, All-head, All-map, All-tail, All-weaker, All-from_recursion}
 use Rattle.std.proofs.lemmas.List.Splits.{slice_split_at, slice_split_none}
 use Rattle.std.specs.Fmt.{decimal}
 use Rattle.std.specs.List.{All, AllByRecursion, slice_split}
@@ -10,7 +10,7 @@ use Rattle.hex.specs.Hex.{encode_lower}
 use Rattle.sha2.specs.Sha256.{sha256}
 use Rattle.office_proof.specs.Meanings.{IsOneColumn, IsOneLine}
 use Rattle.office_proof.proofs.Columns.{code_column, date_column, decimal_column, digest_column, hold_column, line_from_column, literal_column, text_column}
-use Rattle.office_rules.specs.Certificates.{date_text, lines_text, sealed, tabbed}
+use Rattle.office_rules.specs.Certificates.{date_text, lines_text, tabbed}
 use Rattle.office_rules.specs.Outcomes.{is_ending, is_sending, is_skipping, outcome_word}
 use Rattle.office_rules.specs.declared.outcome.Outcome.{Outcome}
 use Rattle.office_rules.specs.declared.outcome.Outcome.TheVariants.{Destroyed, Transferred, Sent, Skipped}
@@ -55,17 +55,39 @@ outcome_column Skipped = literal_column (codes "skipped") refl
 
 each_column : (line : EntryLine) → IsWellFormedLine line → AllByRecursion IsOneColumn (columns_of line)
 each_column line formed = (
-    literal_column (codes "ENTRY") refl, (
-    decimal_column line.record_no, (
-    outcome_column line.outcome, (
-    text_column line.ref_text formed.ref_text, (
-    code_column line.class formed.class, (
-    code_column line.schedule formed.schedule, (
-    date_column line.due, (
-    hold_column line.hold formed.hold.form, (
-    text_column line.confirmed_by formed.confirmed_by, (
-    decimal_column line.length, (
-    digest_column line.digest, tt)))))))))))
+  literal_column (codes "ENTRY") refl,
+  (
+    decimal_column line.record_no,
+    (
+      outcome_column line.outcome,
+      (
+        text_column line.ref_text formed.ref_text,
+        (
+          code_column line.class formed.class,
+          (
+            code_column line.schedule formed.schedule,
+            (
+              date_column line.due,
+              (
+                hold_column line.hold formed.hold.form,
+                (
+                  text_column line.confirmed_by formed.confirmed_by,
+                  (
+                    decimal_column line.length,
+                    (
+                      digest_column line.digest,
+                      tt,
+                    ),
+                  ),
+                ),
+              ),
+            ),
+          ),
+        ),
+      ),
+    ),
+  ),
+)
 
 each_spent : (it : SpentLine) → IsWellFormedSpent it → AllByRecursion IsOneColumn (spent_columns it)
 each_spent it formed = (literal_column (codes "AGGREGATION") refl, (decimal_column it.number, (text_column it.ref_text formed.ref_text, tt)))

@@ -7,9 +7,7 @@ ghost use Rattle.office_evidence.specs.Reading.{Gives};
 ghost use Rattle.office_evidence.specs.declared.parsed.EntryLine.{EntryLine};
 ghost use Rattle.office_evidence.specs.declared.parsed.SpentLine.{SpentLine};
 
-use crate::words::{
-    Unread, code_in, due_in, hold_in, number_in, outcome_in, parts, text_in,
-};
+use crate::words::{Unread, code_in, due_in, hold_in, number_in, outcome_in, parts, text_in};
 use crate::{EntryLine, SpentLine};
 use office_rules::read_digest;
 use std::alloc::Global;

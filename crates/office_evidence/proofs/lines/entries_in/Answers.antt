@@ -1,4 +1,4 @@
-use Rattle.std.proofs.Common.{◌≡◌, ◌∙◌, ◌++◌, [], ◌∷◌, sym, ap, subst, List, ℕ, Bor, Vec, Global}
+use Rattle.std.proofs.Common.{◌≡◌, ◌∙◌, ◌++◌, sym, ap, List, ℕ, Vec, Global}
 use Rattle.office_rules.specs.Certificates.{tabbed}
 use Rattle.office_evidence.specs.Parsed.{IsWellFormedLine, columns_of}
 use Rattle.office_evidence.specs.declared.parsed.EntryLine.{EntryLine}

@@ -1,8 +1,7 @@
-use Rattle.std.proofs.Common.{◌≡◌, ◌∙◌, sym, ap, subst, rules, List, ℕ, ℤ, Option, Some, Ok, Err, codes, unwrap_or, get_or}
+use Rattle.std.proofs.Common.{◌≡◌, sym, subst}
 use Rattle.office_rules.specs.declared.outcome.Outcome.{Outcome}
 use Rattle.office_evidence.specs.Parsed.{IsHoldOf, columns_of}
 use Rattle.office_evidence.specs.Reading.{Gives}
-use Rattle.office_evidence.specs.declared.parsed.EntryLine.{EntryLine}
 use Rattle.office_evidence.proofs.Chains.{given, goes_on, memory, no_error, passed_on, word_at}
 use Rattle.office_evidence.proofs.lines.entry_of.Goals as goal
 

@@ -1,7 +1,6 @@
-use Rattle.std.proofs.Common.{◌≡◌, ◌≢◌, ◌∙◌, sym, ap, subst, rules, arith, length, map, List, ℕ, Bor}
+use Rattle.std.proofs.Common.{◌≡◌, ◌∙◌, sym, ap, arith, length, map, List, ℕ, Bor}
 use Rattle.std.specs.List.{slice_split}
 use Rattle.std.proofs.lemmas.List.{length-map}
-use Rattle.office_evidence.specs.Parsed.{spent_columns}
 use Rattle.office_evidence.proofs.Splitting.{spent_words}
 use Rattle.office_evidence.proofs.lines.read_spent.Goals as goal
 

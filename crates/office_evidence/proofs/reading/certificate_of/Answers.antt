@@ -1,5 +1,4 @@
-use Rattle.std.proofs.Common.{◌≡◌, ◌∙◌, ap, filter, List, ℕ, ℤ}
-use Rattle.std.specs.Prelude.{MatchResult}
+use Rattle.std.proofs.Common.{◌≡◌, ◌∙◌, ap, filter}
 use Rattle.office_evidence.specs.Parsed.{parsed}
 use Rattle.office_evidence.proofs.Chains.{given, given_any, memory, memory_any, passed_any, word_at}
 use Rattle.office_evidence.proofs.Kept.{all_lines, first_line, is_entry_line, is_spent_line, kept_entries, kept_spent, second_line, third_line}

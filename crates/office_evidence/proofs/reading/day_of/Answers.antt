@@ -1,5 +1,4 @@
 use Rattle.std.proofs.Common.{codes, refl}
-use Rattle.std.specs.Fmt.{decimal}
 use Rattle.office_rules.specs.Certificates.{date_text}
 use Rattle.office_evidence.proofs.Chains.{copied_error, copied_on, gives_it}
 use Rattle.office_evidence.proofs.ReadWords.{lacks}

@@ -1,7 +1,6 @@
-use Rattle.std.proofs.Common.{◌≡◌, ◌∙◌, sym, ap, Some, None, Option, arith}
+use Rattle.std.proofs.Common.{◌≡◌, ◌∙◌, sym, ap, Some, None, arith}
 use Rattle.std.proofs.lemmas.Int.{ints}
 use Rattle.jiff_core.specs.Date.{epoch_day}
-use Rattle.jiff_core.specs.declared.civil.date.Date.{Date}
 use Rattle.office_evidence.proofs.DueWords.{due_made, due_read}
 use Rattle.office_evidence.proofs.words.due_in.Goals as goal
 
