@@ -1,5 +1,5 @@
 -- Where what is there came from: the act that opened a run, took a record, closed a run or added a record.
-use Rattle.std.proofs.Common.{◌≡◌, ◌⊎◌, inl, inr, ℕ, zero, suc, ◌<◌, ◌≤◌, ℤ, List, [], ◌∷◌, ◌++◌, length, Option, Some, None, refl, sym, ap, subst, ◌∙◌, arith, unwrap_or}
+use Rattle.std.proofs.Common.{◌≡◌, inl, inr, ℕ, suc, ◌<◌, ℤ, List, [], ◌∷◌, ◌++◌, length, Option, Some, refl, sym, ap, ◌∙◌, arith, unwrap_or}
 use Rattle.std.specs.Prelude.{slice_get}
 use Rattle.std.proofs.lemmas.Bool.{cases_lt}
 use Rattle.std.proofs.lemmas.List.{length-append}
@@ -10,20 +10,19 @@ use Rattle.office_rules.specs.Acts.{step}
 use Rattle.office_rules.specs.Disposing.{entry_of, outcome_of}
 use Rattle.office_rules.specs.Effects.{new_head, new_run}
 use Rattle.office_rules.specs.NewRecords.{NewRecord, add_record}
-use Rattle.office_rules.specs.Runs.{certificate_of, closed, next_ready, open_run, with_outcomes}
+use Rattle.office_rules.specs.Runs.{certificate_of, closed, next_ready, open_run}
 use Rattle.office_rules.specs.Sound.{IsSound}
 use Rattle.office_rules.specs.State.{State}
 use Rattle.office_rules.specs.declared.act.Act.{Act}
 use Rattle.office_rules.specs.declared.act.Act.TheVariants as act
-use Rattle.office_rules.specs.declared.answer.Answer.{Answer}
 use Rattle.office_rules.specs.declared.answer.Answer.TheVariants as answer
 use Rattle.office_rules.specs.declared.entry.Entry.{Entry}
 use Rattle.office_rules.specs.declared.outcome.Outcome.{Outcome}
 use Rattle.office_rules.specs.declared.outcome.Outcome.TheVariants as outcome
 use Rattle.office_rules.proofs.OpenRun.{length-runs}
 use Rattle.office_rules.proofs.SoundMaps.{entry_total, entry_cmp-IsAntisymmetric, put_cases, put_here}
-use Rattle.office_rules.proofs.SoundTaken.{IsTaken, taken}
-use Rattle.office_evidence.proofs.ActKinds.{Adds, Closes, Kind, Opens, Quiet, Takes, kind_of}
+use Rattle.office_rules.proofs.SoundTaken.{taken}
+use Rattle.office_evidence.proofs.ActKinds.{Opens, Takes, kind_of}
 use Rattle.office_evidence.proofs.ActKinds.Kind.{adds, closes, opens, quiet, takes}
 use Rattle.office_evidence.proofs.Lasting.{HasCertificate, HasEntry, HasRecords, HasRun, HasRuns, certificates_of_taken, entries_of_closed, entries_of_taken, records_of_closed, records_of_taken, runs_of_closed}
 use Rattle.office_evidence.proofs.Places.{Comes}
@@ -44,8 +43,7 @@ pub record DidTake (run r : ℕ) (e : Entry) (s : State) (a : Act) : Type 0 wher
 pub taken_by : (s : State) (a : Act) → IsSound s → (q : Takes s (step s a).0 (step s a).1) → (o : Outcome) × DidTake q.run q.r (entry_of s.office q.run q.r o) s a
 taken_by s a sound q =
     let it = taken s q.run q.r sound q.next in
-    let o = it.3 in
-    (
+    let o = it.3 in (
       o,
       record {
         open_is = q.open_is;
@@ -113,11 +111,11 @@ certificate_comes run text s a sound there = elim (kind_of s a) [
       elim (put_cases nat_cmp_total nat_cmp-IsAntisymmetric s.office.certificates q.run (certificate_of s.office q.run) run text
       (ap (λ m. get m run) (sym (certificates_of_closed s q.run)) ∙ ap (λ (t : State). get t.office.certificates run) (sym q.is) ∙ there)) [
         | inl here ↦ inr (record {
-            open_is = q.open_is ∙ ap (λ (n : ℕ). Some n) (sym here.0);
-            answered = q.answered ∙ ap (λ n. answer.RunClosed n) (sym here.0);
-            is = sym here.1 ∙ ap (certificate_of s.office) (sym here.0);
-            written = there;
-          })
+          open_is = q.open_is ∙ ap (λ (n : ℕ). Some n) (sym here.0);
+          answered = q.answered ∙ ap (λ n. answer.RunClosed n) (sym here.0);
+          is = sym here.1 ∙ ap (certificate_of s.office) (sym here.0);
+          written = there;
+        })
         | inr was ↦ inl was
       ]
 ]

@@ -1,10 +1,9 @@
 -- A due day is read of the word that the office writes of it, by the crate `jiff`.
-use Rattle.std.proofs.Common.{◌≡◌, ◌≢◌, inl, inr, ℕ, ◌<◌, ◌≤◌, ◌+◌, ◌*◌, ◌/◌, ◌%◌, ◌++◌, ◌↔◌, ◌≤ℤ◌, ℤ, pos, neg_ℤ, unsigned_abs, List, [], ◌∷◌, Option, Some, None, Result, Ok, Err, refl, sym, ap, ◌∙◌, arith, subst}
+use Rattle.std.proofs.Common.{◌≡◌, inl, inr, ℕ, ◌≤◌, ◌+◌, ◌/◌, ◌%◌, ◌↔◌, ◌≤ℤ◌, true, false, ℤ, pos, unsigned_abs, List, [], ◌∷◌, Option, Some, None, Result, Ok, Err, refl, sym, ap, ◌∙◌, arith, subst}
 use Rattle.std.specs.Option.{is_some}
 use Rattle.std.specs.Prelude.{IsSome, IfSome}
 use Rattle.std.specs.Result.{result_ok}
 use Rattle.std.proofs.lemmas.Bool.{cases_lt}
-use Rattle.jiff_core.specs.Calendar.{IsCivilDate}
 use Rattle.jiff_core.specs.Date.{epoch_day}
 use Rattle.jiff_core.specs.declared.civil.date.Date.{Date}
 use Rattle.jiff_core.specs.declared.error.Error.{Error}
@@ -74,7 +73,10 @@ due_read word r d read form same =
     let low : pos 1 ≤ℤ found.0.year = subst (λ (y : ℤ). pos 1 ≤ℤ y) (sym years) (omega (arith, signed_arith, day.year_in)) in
     (found.0, found.1, sym (number_of-day_of found.0 low) ∙ ap number_of is ∙ number_of-civil d form.0)
 
+no_some : (o : Option ℤ) → o ≡ None → IsSome o → ⊥
+no_some o is e = let no : false ≡ true = sym (ap is_some is) ∙ e in absurd cc
+
 -- the due day of that number
 pub due_made : (r : Option ℤ) (n d : ℤ) → IsSome r ↔ IsDueNumber n → IfSome r (λ x. x ≡ n) → n ≡ d → IsDueNumber d → r ≡ Some d
-due_made None n d in_range value same form = let some : IsSome None = in_range.1 (subst (λ (z : ℤ). IsDueNumber z) (sym same) form) in absurd cc
+due_made None n d in_range value same form = absurd (no_some None refl (in_range.1 (subst (λ (z : ℤ). IsDueNumber z) (sym same) form)))
 due_made (Some x) n d in_range value same form = ap (λ (z : ℤ). Some z) (value ∙ same)

@@ -1,6 +1,6 @@
 -- Lines one after the other, and words that are joined by tabs.
 use Rattle.std.proofs.lemmas.List.{take_more, map-append}
-use Rattle.std.proofs.Common.{◌≡◌, ◌∙◌, ◌<◌, ◌+◌, get_or, take, sym, ap, refl, ℕ, ℤ, Bool, List, [], ◌∷◌, ◌++◌, map, length, filter, count_by, append_assoc, append-nil, codes, Bor}
+use Rattle.std.proofs.Common.{◌≡◌, ◌∙◌, ◌<◌, ◌+◌, get_or, take, sym, ap, refl, ℕ, Bool, List, [], ◌∷◌, ◌++◌, map, length, filter, count_by, append_assoc, append-nil, codes, Bor}
 use Rattle.std.proofs.lemmas.List.Concat.{flat_map-append}
 use Rattle.std.proofs.lemmas.List.Sums.{length-filter}
 use Rattle.std.specs.Fmt.{decimal}

@@ -1,21 +1,18 @@
 -- What stays over any acts: how many runs and records there are at least, a run's day and opener, its entries and its
 -- certificate.
-use Rattle.std.proofs.Common.{◌≡◌, ◌≢◌, ◌⊎◌, inl, inr, ℕ, suc, ◌<◌, ◌≤◌, ℤ, true, false, List, [], ◌∷◌, ◌++◌, length, Option, Some, None, refl, sym, ap, subst, ◌∙◌, arith, unwrap_or}
+use Rattle.std.proofs.Common.{◌≡◌, ◌≢◌, inl, inr, ℕ, ◌<◌, ◌≤◌, ℤ, true, false, List, [], ◌∷◌, length, Option, Some, refl, sym, ap, subst, ◌∙◌, arith, unwrap_or}
 use Rattle.std.proofs.lemmas.List.{length-append}
-use Rattle.std.specs.Cmp.{nat_cmp_total}
-use Rattle.std.specs.FinMap.{get, insert, nat_cmp-IsAntisymmetric}
-use Rattle.std.specs.Option.{is_some, option_map}
+use Rattle.std.specs.FinMap.{get, insert}
+use Rattle.std.specs.Option.{option_map}
 use Rattle.office_records.specs.Lists.{numbered, edited}
-use Rattle.office_records.proofs.Places.{length-edited, numbered_within}
-use Rattle.office_rules.specs.Acts.{after, step}
+use Rattle.office_records.proofs.Places.{length-edited}
+use Rattle.office_rules.specs.Acts.{after}
 use Rattle.office_rules.specs.Disposing.{entry_of, outcome_of}
 use Rattle.office_rules.specs.Effects.{new_head, new_run}
-use Rattle.office_rules.specs.Forms.{IsWellFormedAct}
-use Rattle.office_rules.specs.Runs.{certificate_of, closed, cursor_of, entries_with, open_run, with_outcomes}
+use Rattle.office_rules.specs.Runs.{closed, cursor_of, entries_with, open_run, with_outcomes}
 use Rattle.office_rules.specs.Sound.{IsSound}
 use Rattle.office_rules.specs.State.{State}
 use Rattle.office_rules.specs.declared.act.Act.{Act}
-use Rattle.office_rules.specs.declared.answer.Answer.{Answer}
 use Rattle.office_rules.specs.declared.entry.Entry.{Entry}
 use Rattle.office_rules.specs.declared.outcome.Outcome.{Outcome}
 use Rattle.office_rules.specs.declared.run.Run.{Run}
@@ -23,9 +20,9 @@ use Rattle.office_rules.proofs.Certifying.{other_certificates}
 use Rattle.office_rules.proofs.OpenRun.{length-runs}
 use Rattle.office_rules.proofs.SoundMaps.{edited_here, edited_elsewhere, entry_total, entry_cmp-IsAntisymmetric, is_there, one_there, pushed_keeps, put_elsewhere, same_or_not}
 use Rattle.office_rules.proofs.SoundRuns.{open_there}
-use Rattle.office_rules.proofs.SoundTaken.{IsTaken, taken}
-use Rattle.office_evidence.specs.History.{AreWellFormed, before}
-use Rattle.office_evidence.proofs.ActKinds.{Adds, Closes, Kind, Opens, Quiet, Takes, kind_of}
+use Rattle.office_rules.proofs.SoundTaken.{taken}
+use Rattle.office_evidence.specs.History.{AreWellFormed}
+use Rattle.office_evidence.proofs.ActKinds.{kind_of}
 use Rattle.office_evidence.proofs.ActKinds.Kind.{adds, closes, opens, quiet, takes}
 use Rattle.office_evidence.proofs.Places.{Lasts, before_end, lasts}
 
@@ -152,17 +149,17 @@ run_edited : (run other : ℕ) (day : ℤ) (by : List ℕ) (change : Run → Run
     → HasRun run day by s → HasRun run day by t
 run_edited run other day by change s t same same_day same_by has = elim (same_or_not run other) [
   | inl here ↦ record {
-      it = change has.it;
-      there = ap (λ runs. numbered runs run) same ∙ ap (numbered (edited s.office.runs other change)) here ∙ edited_here s.office.runs other change has.it (ap (numbered s.office.runs) (sym here) ∙ has.there);
-      on_day = same_day has.it ∙ has.on_day;
-      opened_by = same_by has.it ∙ has.opened_by;
-    }
+    it = change has.it;
+    there = ap (λ runs. numbered runs run) same ∙ ap (numbered (edited s.office.runs other change)) here ∙ edited_here s.office.runs other change has.it (ap (numbered s.office.runs) (sym here) ∙ has.there);
+    on_day = same_day has.it ∙ has.on_day;
+    opened_by = same_by has.it ∙ has.opened_by;
+  }
   | inr elsewhere ↦ record {
-      it = has.it;
-      there = ap (λ runs. numbered runs run) same ∙ edited_elsewhere s.office.runs other run change elsewhere ∙ has.there;
-      on_day = has.on_day;
-      opened_by = has.opened_by;
-    }
+    it = has.it;
+    there = ap (λ runs. numbered runs run) same ∙ edited_elsewhere s.office.runs other run change elsewhere ∙ has.there;
+    on_day = has.on_day;
+    opened_by = has.opened_by;
+  }
 ]
 
 runs_taken : (s : State) (run r : ℕ) → (with_outcomes s run (r ∷ [])).office.runs ≡ edited s.office.runs run (λ it. record it { cursor = r })
@@ -178,11 +175,11 @@ run_lasts run day by s a sound formed has = elim (kind_of s a) [
   | quiet q ↦ run_by run day by s _ q.runs has
   | adds q ↦ run_by run day by s _ (ap (λ (t : State). t.office.runs) q.is) has
   | opens q ↦ record {
-      it = has.it;
-      there = ap (λ (t : State). numbered t.office.runs run) q.is ∙ pushed_keeps s.office.runs (new_run q.day q.by) run has.it has.there;
-      on_day = has.on_day;
-      opened_by = has.opened_by;
-    }
+    it = has.it;
+    there = ap (λ (t : State). numbered t.office.runs run) q.is ∙ pushed_keeps s.office.runs (new_run q.day q.by) run has.it has.there;
+    on_day = has.on_day;
+    opened_by = has.opened_by;
+  }
   | takes q ↦ run_edited run q.run day by (λ it. record it { cursor = q.r }) s _ (ap (λ (t : State). t.office.runs) q.is ∙ runs_taken s q.run q.r) (λ it. refl) (λ it. refl) has
   | closes q ↦ run_edited run q.run day by (λ it. record it { is_closed = true }) s _ (ap (λ (t : State). t.office.runs) q.is ∙ runs_closed s q.run) (λ it. refl) (λ it. refl) has
 ]

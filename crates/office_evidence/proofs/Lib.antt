@@ -13,3 +13,6 @@ pub mod Joining
 pub mod ReadWords
 pub mod DueWords
 pub mod Splitting
+pub mod Picking
+pub mod Kept
+pub mod Chains

@@ -1,10 +1,10 @@
 -- A run between its opening and its closing: which acts these are, and that between them no other run is open.
-use Rattle.std.proofs.Common.{◌≡◌, ◌⊎◌, inl, inr, ℕ, suc, ◌<◌, ◌≤◌, ℤ, List, length, Some, refl, sym, ap, subst, ◌∙◌, arith}
+use Rattle.std.proofs.Common.{◌≡◌, inl, inr, ℕ, suc, ◌<◌, ◌≤◌, List, length, Some, sym, ap, subst, ◌∙◌, arith}
 use Rattle.std.specs.Prelude.{slice_get}
 use Rattle.std.proofs.lemmas.Bool.{cases_lt}
 use Rattle.std.specs.FinMap.{get}
 use Rattle.office_records.proofs.Places.{numbered_within}
-use Rattle.office_rules.specs.Acts.{after, step}
+use Rattle.office_rules.specs.Acts.{after}
 use Rattle.office_rules.specs.Runs.{open_run}
 use Rattle.office_rules.specs.Sound.{IsSound}
 use Rattle.office_rules.specs.State.{State}
@@ -14,7 +14,7 @@ use Rattle.office_rules.proofs.SoundRuns.{open_there}
 use Rattle.office_evidence.specs.History.{AreWellFormed, IsClosedAt, IsOpenedAt, before}
 use Rattle.office_evidence.proofs.Coming.{DidClose, DidOpen, certificate_comes, run_comes}
 use Rattle.office_evidence.proofs.Lasting.{HasCertificate, HasRun, HasRuns, run_lasts, runs_last}
-use Rattle.office_evidence.proofs.Places.{IsDoneBefore, answered_at, before_end, came, lasts_from, next_at}
+use Rattle.office_evidence.proofs.Places.{answered_at, before_end, came, lasts_from, next_at}
 
 -- an open run is the last
 pub open_last : (s : State) (run : ℕ) → open_run s.office ≡ Some run → run ≡ length s.office.runs
@@ -55,16 +55,16 @@ module _ (s : State) (acts : List Act) (sound : IsSound s) (formed : AreWellForm
             elim (came (HasRuns run) (DidOpen run) (run_comes run) s acts it.place sound formed (omega (arith, last))) [
               | inl was ↦ absurd (omega (arith, was, later))
               | inr first ↦ record {
-                  closing = it.place;
-                  closed_by = it.done;
-                  closed_at = it.at;
-                  close = it.did;
-                  opening = first.place;
-                  opened_by = first.done;
-                  opened_at = first.at;
-                  opens = first.did;
-                  in_order = first.early;
-                }
+                closing = it.place;
+                closed_by = it.done;
+                closed_at = it.at;
+                close = it.did;
+                opening = first.place;
+                opened_by = first.done;
+                opened_at = first.at;
+                opens = first.did;
+                in_order = first.early;
+              }
             ]
       ]
 

@@ -1,8 +1,8 @@
 -- The text of a certificate, parted at its line feeds, gives its lines; the line of an entry, parted at its tabs, its words.
-use Rattle.std.proofs.Common.{◌≡◌, ◌≢◌, ◌==◌, ℕ, zero, suc, ◌<◌, Bool, true, false, List, [], ◌∷◌, ◌++◌, map, length, codes, Option, Some, None, refl, sym, ap, ◌∙◌, append_assoc, arith}
+use Rattle.std.proofs.Common.{◌≡◌, ◌≢◌, ◌==◌, ℕ, true, false, List, [], ◌∷◌, ◌++◌, filter, map, length, codes, refl, sym, ap, ◌∙◌, append_assoc, arith}
 use Rattle.std.proofs.lemmas.Bool.Decides.{nat_tests}
 use Rattle.std.proofs.lemmas.List.Concat.{flat_map-append}
-use Rattle.std.proofs.lemmas.List.Elements.{All-nil, All-cons, All-append, All-contains, All-head, All-map, All-tail, All-weaker, All-from_recursion}
+use Rattle.std.proofs.lemmas.List.Elements.{All-nil, All-cons, All-append, All-head, All-map, All-tail, All-weaker, All-from_recursion}
 use Rattle.std.proofs.lemmas.List.Splits.{slice_split_at, slice_split_none}
 use Rattle.std.specs.Fmt.{decimal}
 use Rattle.std.specs.List.{All, AllByRecursion, slice_split}
@@ -10,11 +10,11 @@ use Rattle.hex.specs.Hex.{encode_lower}
 use Rattle.sha2.specs.Sha256.{sha256}
 use Rattle.office_proof.specs.Meanings.{IsOneColumn, IsOneLine}
 use Rattle.office_proof.proofs.Columns.{code_column, date_column, decimal_column, digest_column, hold_column, line_from_column, literal_column, text_column}
-use Rattle.office_rules.specs.Certificates.{date_text, lines_text, sealed, tabbed}
+use Rattle.office_rules.specs.Certificates.{date_text, lines_text, tabbed}
 use Rattle.office_rules.specs.Outcomes.{is_ending, is_sending, is_skipping, outcome_word}
 use Rattle.office_rules.specs.declared.outcome.Outcome.{Outcome}
 use Rattle.office_rules.specs.declared.outcome.Outcome.TheVariants.{Destroyed, Transferred, Sent, Skipped}
-use Rattle.office_evidence.specs.Parsed.{Certificate, IsWellFormedCertificate, IsWellFormedLine, IsWellFormedSpent, columns_of, count_in, lines_of, spent_columns, text_of}
+use Rattle.office_evidence.specs.Parsed.{Certificate, IsWellFormedCertificate, IsWellFormedLine, IsWellFormedSpent, columns_of, count_in, lines_of, seal_of, spent_columns, text_of}
 use Rattle.office_evidence.specs.declared.parsed.EntryLine.{EntryLine}
 use Rattle.office_evidence.specs.declared.parsed.SpentLine.{SpentLine}
 
@@ -55,17 +55,39 @@ outcome_column Skipped = literal_column (codes "skipped") refl
 
 each_column : (line : EntryLine) → IsWellFormedLine line → AllByRecursion IsOneColumn (columns_of line)
 each_column line formed = (
-    literal_column (codes "ENTRY") refl, (
-    decimal_column line.record_no, (
-    outcome_column line.outcome, (
-    text_column line.ref_text formed.ref_text, (
-    code_column line.class formed.class, (
-    code_column line.schedule formed.schedule, (
-    date_column line.due, (
-    hold_column line.hold formed.hold.form, (
-    text_column line.confirmed_by formed.confirmed_by, (
-    decimal_column line.length, (
-    digest_column line.digest, tt)))))))))))
+  literal_column (codes "ENTRY") refl,
+  (
+    decimal_column line.record_no,
+    (
+      outcome_column line.outcome,
+      (
+        text_column line.ref_text formed.ref_text,
+        (
+          code_column line.class formed.class,
+          (
+            code_column line.schedule formed.schedule,
+            (
+              date_column line.due,
+              (
+                hold_column line.hold formed.hold.form,
+                (
+                  text_column line.confirmed_by formed.confirmed_by,
+                  (
+                    decimal_column line.length,
+                    (
+                      digest_column line.digest,
+                      tt,
+                    ),
+                  ),
+                ),
+              ),
+            ),
+          ),
+        ),
+      ),
+    ),
+  ),
+)
 
 each_spent : (it : SpentLine) → IsWellFormedSpent it → AllByRecursion IsOneColumn (spent_columns it)
 each_spent it formed = (literal_column (codes "AGGREGATION") refl, (decimal_column it.number, (text_column it.ref_text formed.ref_text, tt)))
@@ -88,27 +110,30 @@ labelled_line label word label_one word_one = All-append (λ b. b ≢ 10) label 
 
 six : (a b c d e f : List ℕ) (more : List (List ℕ)) → IsOneLine a → IsOneLine b → IsOneLine c → IsOneLine d → IsOneLine e → IsOneLine f → All IsOneLine more → All IsOneLine (a ∷ b ∷ c ∷ d ∷ e ∷ f ∷ more)
 six a b c d e f more ha hb hc hd he hf rest =
-    All-cons IsOneLine a _ ha (All-cons IsOneLine b _ hb (All-cons IsOneLine c _ hc (All-cons IsOneLine d _ hd (All-cons IsOneLine e _ he (All-cons IsOneLine f more hf rest)))))
+    let fs : All IsOneLine (f ∷ more) = All-cons IsOneLine f more hf rest in
+    let es : All IsOneLine (e ∷ f ∷ more) = All-cons IsOneLine e (f ∷ more) he fs in
+    let ds : All IsOneLine (d ∷ e ∷ f ∷ more) = All-cons IsOneLine d (e ∷ f ∷ more) hd es in
+    let cs : All IsOneLine (c ∷ d ∷ e ∷ f ∷ more) = All-cons IsOneLine c (d ∷ e ∷ f ∷ more) hc ds in
+    let bs : All IsOneLine (b ∷ c ∷ d ∷ e ∷ f ∷ more) = All-cons IsOneLine b (c ∷ d ∷ e ∷ f ∷ more) hb cs in
+    All-cons IsOneLine a (b ∷ c ∷ d ∷ e ∷ f ∷ more) ha bs
 
 lines_whole : (c : Certificate) → IsWellFormedCertificate c → All IsOneLine (lines_of c)
 unfolding lines_of
 lines_whole c formed =
     let entries = All-map IsOneLine (λ line. tabbed (columns_of line)) c.entries (All-weaker IsWellFormedLine (λ line. IsOneLine (tabbed (columns_of line))) (λ line is. tabbed_line (columns_of line) (each_column line is)) c.entries formed.entries) in
     let spent = All-map IsOneLine (λ it. tabbed (spent_columns it)) c.spent (All-weaker IsWellFormedSpent (λ it. IsOneLine (tabbed (spent_columns it))) (λ it is. tabbed_line (spent_columns it) (each_spent it is)) c.spent formed.spent) in
-    All-append IsOneLine _ ((codes "SPENT " ++ decimal (length c.spent)) ∷ map (λ it. tabbed (spent_columns it)) c.spent)
+    All-append IsOneLine
+    ((codes "CERTIFICATE " ++ decimal c.run) ∷ (codes "DAY " ++ date_text c.day) ∷ (codes "BY " ++ c.by) ∷ (codes "ENDED " ++ count_in is_ending c.entries) ∷ (codes "SENT " ++ count_in is_sending c.entries) ∷ (codes "SKIPPED " ++ count_in is_skipping c.entries) ∷ map (λ line. tabbed (columns_of line)) c.entries)
+    ((codes "SPENT " ++ decimal (length c.spent)) ∷ map (λ it. tabbed (spent_columns it)) c.spent)
     (six (codes "CERTIFICATE " ++ decimal c.run) (codes "DAY " ++ date_text c.day) (codes "BY " ++ c.by) (codes "ENDED " ++ count_in is_ending c.entries) (codes "SENT " ++ count_in is_sending c.entries) (codes "SKIPPED " ++ count_in is_skipping c.entries) (map (λ line. tabbed (columns_of line)) c.entries)
     (labelled_line (codes "CERTIFICATE ") (decimal c.run) (literal_column (codes "CERTIFICATE ") refl) (decimal_column c.run))
     (labelled_line (codes "DAY ") (date_text c.day) (literal_column (codes "DAY ") refl) (date_column c.day))
     (labelled_line (codes "BY ") c.by (literal_column (codes "BY ") refl) (text_column c.by formed.by))
-    (labelled_line (codes "ENDED ") (count_in is_ending c.entries) (literal_column (codes "ENDED ") refl) (decimal_column _))
-    (labelled_line (codes "SENT ") (count_in is_sending c.entries) (literal_column (codes "SENT ") refl) (decimal_column _))
-    (labelled_line (codes "SKIPPED ") (count_in is_skipping c.entries) (literal_column (codes "SKIPPED ") refl) (decimal_column _))
+    (labelled_line (codes "ENDED ") (count_in is_ending c.entries) (literal_column (codes "ENDED ") refl) (decimal_column (length (filter (λ line. is_ending line.outcome) c.entries))))
+    (labelled_line (codes "SENT ") (count_in is_sending c.entries) (literal_column (codes "SENT ") refl) (decimal_column (length (filter (λ line. is_sending line.outcome) c.entries))))
+    (labelled_line (codes "SKIPPED ") (count_in is_skipping c.entries) (literal_column (codes "SKIPPED ") refl) (decimal_column (length (filter (λ line. is_skipping line.outcome) c.entries))))
     entries)
-    (All-cons IsOneLine (codes "SPENT " ++ decimal (length c.spent)) _ (labelled_line (codes "SPENT ") (decimal (length c.spent)) (literal_column (codes "SPENT ") refl) (decimal_column (length c.spent))) spent)
-
--- the last line
-abbrev pub seal_of : Certificate → List ℕ
-seal_of c = codes "SHA256 " ++ encode_lower (sha256 (lines_text (lines_of c)))
+    (All-cons IsOneLine (codes "SPENT " ++ decimal (length c.spent)) (map (λ it. tabbed (spent_columns it)) c.spent) (labelled_line (codes "SPENT ") (decimal (length c.spent)) (literal_column (codes "SPENT ") refl) (decimal_column (length c.spent))) spent)
 
 -- the text, parted at its line feeds
 pub text_lines : (c : Certificate) → IsWellFormedCertificate c → slice_split (λ b. b == 10) (text_of c) ≡ (lines_of c ++ seal_of c ∷ []) ++ [] ∷ []

@@ -1,10 +1,8 @@
 -- Each line of a run's certificate is true of its step, and each step has its line.
-use Rattle.std.proofs.Common.{◌≡◌, ◌≢◌, ◌⊎◌, inl, inr, ℕ, suc, ◌+◌, ◌<◌, ◌≤◌, ℤ, Bool, true, false, List, [], ◌∷◌, length, map, take, Option, Some, None, refl, sym, ap, subst, ◌∙◌, arith, unwrap_or, option_map, option_and_then, pos}
+use Rattle.std.proofs.Common.{◌≡◌, ◌≢◌, ◌⊎◌, inl, inr, ℕ, suc, ◌<◌, ◌≤◌, ℤ, true, false, List, [], length, take, Option, Some, None, refl, sym, ap, subst, ◌∙◌, arith, unwrap_or, option_map, option_and_then, pos}
 use Rattle.std.specs.Prelude.{IsSome, IsTrue, slice_get}
 use Rattle.std.specs.Option.{is_some}
-use Rattle.std.proofs.lemmas.Bool.{cases_lt}
 use Rattle.std.specs.FinMap.{get}
-use Rattle.std.specs.List.{Contains}
 use Rattle.office_records.specs.Disposal.{confirmation_of}
 use Rattle.office_records.specs.Lists.{numbered}
 use Rattle.office_records.specs.Tree.{class_of, plan_of}
@@ -13,10 +11,9 @@ use Rattle.office_records.specs.declared.head.Record.{Record}
 use Rattle.office_records.specs.declared.status.Status.{Status}
 use Rattle.office_records.specs.declared.status.Status.TheVariants as status
 use Rattle.office_records.proofs.Places.{numbered_within}
-use Rattle.office_rules.specs.Acts.{after, step}
-use Rattle.office_rules.specs.Disposing.{entry_of, outcome_of}
+use Rattle.office_rules.specs.Disposing.{entry_of}
 use Rattle.office_rules.specs.Outcomes.{is_ending}
-use Rattle.office_rules.specs.Runs.{entries_of, open_run, run_day}
+use Rattle.office_rules.specs.Runs.{run_day}
 use Rattle.office_rules.specs.Sound.{IsSound}
 use Rattle.office_rules.specs.State.{State}
 use Rattle.office_rules.specs.declared.act.Act.{Act}
@@ -24,24 +21,20 @@ use Rattle.office_rules.specs.declared.answer.Answer.{Answer}
 use Rattle.office_rules.specs.declared.answer.Answer.TheVariants as answer
 use Rattle.office_rules.specs.declared.entry.Entry.{Entry}
 use Rattle.office_rules.specs.declared.outcome.Outcome.{Outcome}
-use Rattle.office_rules.specs.declared.outcome.Outcome.TheVariants as outcome
 use Rattle.office_rules.specs.declared.run.Run.{Run}
-use Rattle.office_rules.proofs.Listing.{listed_entries}
 use Rattle.office_rules.proofs.Repeating.{reported_again}
 use Rattle.office_rules.proofs.SoundMaps.{is_there, one_there}
 use Rattle.office_rules.proofs.SoundPlans.{class_there, numbered_there, plan_there}
-use Rattle.office_rules.proofs.SoundTaken.{IsTaken, taken}
+use Rattle.office_rules.proofs.SoundTaken.{taken}
 use Rattle.office_evidence.specs.History.{AreWellFormed, IsStepAt, before}
-use Rattle.office_evidence.specs.Truth.{HasGone, IsBetween, IsConfirmed, IsTrueLine, IsWarranted, WasAdded}
-use Rattle.office_evidence.specs.declared.parsed.EntryLine.{EntryLine}
-use Rattle.office_evidence.proofs.ActKinds.{Adds, Closes, Kind, Opens, Quiet, Takes, kind_of}
+use Rattle.office_evidence.specs.Truth.{IsTrueLine, IsWarranted, WasAdded}
+use Rattle.office_evidence.proofs.ActKinds.{kind_of}
 use Rattle.office_evidence.proofs.ActKinds.Kind.{adds, closes, opens, quiet, takes}
 use Rattle.office_evidence.proofs.Adding.{answers_get, stays_as_added, taken_get}
-use Rattle.office_evidence.proofs.Coming.{DidAdd, DidTake, entry_comes, record_comes, taken_by}
-use Rattle.office_evidence.proofs.Lasting.{HasEntry, HasRecords, HasRun, entry_lasts, other_key}
-use Rattle.office_evidence.proofs.Openings.{IsRun, after_opening, has_run, is_this}
-use Rattle.office_evidence.proofs.Places.{IsDoneAt, IsDoneBefore, answered_at, came, done_at, lasts_from, next_at, sound_at}
-use Rattle.office_evidence.proofs.Viewed.{line_by, line_in}
+use Rattle.office_evidence.proofs.Coming.{DidAdd, DidTake, record_comes, taken_by}
+use Rattle.office_evidence.proofs.Lasting.{HasEntry, HasRecords, HasRun, entry_lasts}
+use Rattle.office_evidence.proofs.Places.{answered_at, came, done_at, lasts_from, next_at, sound_at}
+use Rattle.office_evidence.proofs.Viewed.{line_by}
 use Rattle.office_evidence.proofs.Warrants.{warranted}
 
 -- ---- small facts
@@ -176,13 +169,15 @@ module _ (s : State) (acts : List Act) (sound : IsSound s) (formed : AreWellForm
             let same : did.0 ≡ did.1.outcome = ap (λ (e : Entry). e.outcome) did.1.is in
             let reported : answer.Step q.r did.0 ≡ answer.Step r o = ap (λ (p : Outcome). answer.Step q.r p) same ∙ sym did.1.answered ∙ it.answered in
             let number : q.r ≡ r = cc in
-            let came_of : did.0 ≡ o = cc in
-            (q.run, record {
-              done = it.done;
-              at = it.at;
-              entry = entry_of v.office q.run q.r did.0;
-              did = subst (λ (n : ℕ). DidTake q.run n (entry_of v.office q.run q.r did.0) v it.done) number did.1;
-              record_no = number;
-              outcome = came_of;
-            })
+            let came_of : did.0 ≡ o = cc in (
+              q.run,
+              record {
+                done = it.done;
+                at = it.at;
+                entry = entry_of v.office q.run q.r did.0;
+                did = subst (λ (n : ℕ). DidTake q.run n (entry_of v.office q.run q.r did.0) v it.done) number did.1;
+                record_no = number;
+                outcome = came_of;
+              },
+            )
       ]

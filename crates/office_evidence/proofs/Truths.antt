@@ -1,7 +1,6 @@
 -- The certificate of a run is true of the acts.
-use Rattle.std.proofs.Common.{◌≡◌, ◌≢◌, ◌⊎◌, inl, inr, ℕ, suc, ◌+◌, ◌<◌, ◌≤◌, ℤ, Bool, true, false, List, [], ◌∷◌, length, map, Option, Some, None, refl, sym, ap, subst, ◌∙◌, arith, unwrap_or, option_map, pos}
-use Rattle.std.specs.Prelude.{IsSome, IsTrue, slice_get}
-use Rattle.std.specs.Option.{is_some}
+use Rattle.std.proofs.Common.{◌≡◌, inl, inr, ℕ, suc, ◌+◌, ◌<◌, ◌≤◌, ℤ, List, [], ◌∷◌, length, map, Option, Some, refl, sym, ap, subst, ◌∙◌, arith, unwrap_or, option_map, pos}
+use Rattle.std.specs.Prelude.{IsTrue, slice_get}
 use Rattle.std.proofs.lemmas.Bool.{cases_lt}
 use Rattle.std.specs.FinMap.{get}
 use Rattle.std.specs.List.{Contains}
@@ -9,10 +8,9 @@ use Rattle.std.specs.List.Sorted.{IsStrictlySortedBy}
 use Rattle.std.specs.Ordering.{nat_cmp}
 use Rattle.office_records.specs.Lists.{numbered}
 use Rattle.office_records.specs.Tree.{TreeState}
-use Rattle.office_records.specs.declared.status.Status.{Status}
 use Rattle.office_records.specs.declared.status.Status.TheVariants as status
 use Rattle.office_records.proofs.Places.{numbered_within}
-use Rattle.office_rules.specs.Acts.{after, answers, step}
+use Rattle.office_rules.specs.Acts.{after, answers}
 use Rattle.office_rules.specs.Certificates.{certificate_text}
 use Rattle.office_rules.specs.Outcomes.{is_ending}
 use Rattle.office_rules.specs.Runs.{certificate_of, entries_of, opened_by, run_day, spent_list}
@@ -29,14 +27,14 @@ use Rattle.office_rules.proofs.SoundEmpty.{sound_empty}
 use Rattle.office_rules.proofs.SoundMaps.{is_there, one_there}
 use Rattle.office_rules.proofs.SoundTaken.{taken}
 use Rattle.office_evidence.specs.History.{AreWellFormed, IsStepAt, before}
-use Rattle.office_evidence.specs.Parsed.{Certificate, IsTextOf, text_of}
+use Rattle.office_evidence.specs.Parsed.{Certificate, IsTextOf}
 use Rattle.office_evidence.specs.Truth.{AreTheSteps, IsBetween, IsTrueCertificate, IsTrueLine, NoOtherWent}
 use Rattle.office_evidence.specs.declared.parsed.EntryLine.{EntryLine}
 use Rattle.office_evidence.proofs.Coming.{DidTake, entry_comes}
 use Rattle.office_evidence.proofs.Lasting.{HasCertificate, HasEntry, HasRecords, HasRun, HasRuns, certificate_lasts, entry_lasts, other_key, records_last, runs_last}
-use Rattle.office_evidence.proofs.Openings.{IsRun, after_opening, has_run, is_closed, is_last, is_opened, is_this, open_last, run_of}
-use Rattle.office_evidence.proofs.Places.{IsDoneBefore, answered_at, before_end, came, lasts, lasts_from, next_at, sound_at}
-use Rattle.office_evidence.proofs.TrueLines.{IsStep, ended_gone, gone_ended, line_is_true, step_is, written_since}
+use Rattle.office_evidence.proofs.Openings.{IsRun, after_opening, has_run, is_closed, is_opened, is_this, run_of}
+use Rattle.office_evidence.proofs.Places.{answered_at, before_end, came, lasts, lasts_from, next_at, sound_at}
+use Rattle.office_evidence.proofs.TrueLines.{IsStep, gone_ended, line_is_true, step_is, written_since}
 use Rattle.office_evidence.proofs.Viewed.{in_mapped, line_in, mapped_from, same_text, view_of}
 use Rattle.office_evidence.proofs.WellFormed.{heads_there, listed_under, spent_there, view_formed}
 
@@ -181,7 +179,7 @@ module _ (s : State) (acts : List Act) (sound : IsSound s) (formed : AreWellForm
       let there = lasts_from (HasRecords r) (records_last r) s acts p behind (omega arith) sound formed (omega (arith, within.1, then.limits.statuses)) in
       let ended = now.entries.ended r (gone_ended (before s acts behind) r now within.0 (omega (arith, there, now.limits.statuses)) none) in
       let alive : (e : Entry) → get (before s acts p).office.entries (ended.0, r) ≡ Some e → IsTrue (is_ending e.outcome) → ⊥ = λ e is ending.
-          was.2 (one_there (numbered (before s acts p).office.tree.statuses r) was.0 status.Ended was.1 (then.entries.no_other ended.0 r e is ending)) in
+      was.2 (one_there (numbered (before s acts p).office.tree.statuses r) was.0 status.Ended was.1 (then.entries.no_other ended.0 r e is ending)) in
       elim (came (HasEntry ended.0 r ended.1) (DidTake ended.0 r ended.1) (entry_comes ended.0 r ended.1) s acts behind sound formed ended.2) [
         | inl first ↦ absurd (alive ended.1 (lasts (HasEntry ended.0 r ended.1) (entry_lasts ended.0 r ended.1) s acts p sound formed first) ended.3)
         | inr wrote ↦ elim (cases_lt wrote.place p) [

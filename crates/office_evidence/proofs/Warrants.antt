@@ -1,5 +1,5 @@
 -- What the outcome of a step rests on: the status, the plan and the holds of the record just before it.
-use Rattle.std.proofs.Common.{◌≡◌, ℕ, ◌≤ℤ◌, ◌&&◌, ℤ, Bool, true, false, List, Option, Some, None, refl, sym, ap, subst, ◌∙◌, int_le, option_and_then, arith}
+use Rattle.std.proofs.Common.{◌≡◌, ℕ, ◌≤ℤ◌, ◌&&◌, ℤ, Bool, true, false, Option, Some, None, refl, sym, subst, int_le, option_and_then, arith}
 use Rattle.std.specs.Prelude.{IsSome}
 use Rattle.std.proofs.lemmas.Bool.{and_parts}
 use Rattle.std.proofs.lemmas.Int.{ints}
@@ -13,13 +13,11 @@ use Rattle.office_records.specs.declared.status.Status.{Status}
 use Rattle.office_records.specs.declared.status.Status.TheVariants as status
 use Rattle.office_rules.specs.Disposing.{may_begin, outcome_by, outcome_of, ready_by}
 use Rattle.office_rules.specs.Holds.{is_held}
-use Rattle.office_rules.specs.Meanings.{IsCandidate}
 use Rattle.office_rules.specs.Runs.{next_ready, run_day}
 use Rattle.office_rules.specs.Sound.{IsSound}
 use Rattle.office_rules.specs.State.{State}
 use Rattle.office_rules.specs.declared.outcome.Outcome.{Outcome}
 use Rattle.office_rules.specs.declared.outcome.Outcome.TheVariants as outcome
-use Rattle.office_rules.proofs.SoundPlans.{numbered_there}
 use Rattle.office_rules.proofs.SoundTaken.{holds_is, next_is}
 use Rattle.office_evidence.specs.Truth.{IsWarranted, WasDue, WasReceived}
 
@@ -69,7 +67,7 @@ module _ (s : State) (r : ℕ) (day : ℤ) (o : Outcome) where
   status_by (Some status.Ended) is sound head there ready comes = absurd cc
   status_by (Some status.Received) is sound head there ready comes =
       let receipt : IsSome (option_and_then (λ (it : Record). it.receipt) (numbered s.office.tree.records r)) =
-          subst (λ (x : Option Record). IsSome (option_and_then (λ (it : Record). it.receipt) x)) (sym there) (sound.documents.received r head there is) in
+      subst (λ (x : Option Record). IsSome (option_and_then (λ (it : Record). it.receipt) x)) (sym there) (sound.documents.received r head there is) in
       received_by (is_held s.office.holds s.office.tree r) refl (record { status = is; receipt = receipt }) comes
 
 -- what comes of the record that is next in a sound office is warranted

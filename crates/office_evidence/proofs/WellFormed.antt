@@ -1,6 +1,6 @@
 -- What a sound office lists in a certificate is there and of its form.
-use Rattle.std.proofs.Common.{◌≡◌, ◌↔◌, ℕ, ◌<◌, ◌≤◌, ◌^◌, ◌&&◌, ℤ, Bool, true, List, [], length, map, Option, Some, None, refl, sym, ap, subst, ◌∙◌, arith}
-use Rattle.std.specs.Prelude.{IsSome, IsTrue, nat_le}
+use Rattle.std.proofs.Common.{◌≡◌, ◌↔◌, ℕ, ◌<◌, ◌≤◌, ◌^◌, ◌&&◌, ℤ, true, List, length, Option, Some, sym, ap, subst, ◌∙◌, arith}
+use Rattle.std.specs.Prelude.{IsSome, nat_le}
 use Rattle.std.specs.FinMap.{get}
 use Rattle.std.specs.List.{All, Contains}
 use Rattle.std.proofs.lemmas.Bool.Decides.{nat_tests}
@@ -8,7 +8,6 @@ use Rattle.std.proofs.lemmas.List.Elements.{All-map}
 use Rattle.office_days.specs.Limits.{IsDayNumber}
 use Rattle.office_records.specs.Forms.{IsText, IsWellFormedAggregation, IsWellFormedRecord}
 use Rattle.office_records.specs.Lists.{numbered}
-use Rattle.office_records.specs.Tree.{has_aggregation}
 use Rattle.office_records.specs.declared.aggregation.Aggregation.{Aggregation}
 use Rattle.office_records.specs.declared.head.Record.{Record}
 use Rattle.office_rules.specs.EntryForms.{IsWellFormedEntry}

@@ -5,6 +5,7 @@ use Rattle.std.specs.Fmt.{decimal}
 use Rattle.std.specs.List.{All}
 use Rattle.std.specs.Option.{unwrap_or}
 use Rattle.hex.specs.Hex.{encode_lower}
+use Rattle.sha2.specs.Sha256.{sha256}
 use Rattle.office_days.specs.Limits.{IsDayNumber, IsDueNumber}
 use Rattle.office_records.specs.Forms.{IsCode, IsDigest, IsText}
 use Rattle.office_rules.specs.Certificates.{date_text, lines_text, sealed, tabbed}
@@ -56,6 +57,10 @@ lines_of c =
     ∷ map (λ line. tabbed (columns_of line)) c.entries
     ++ (codes "SPENT " ++ decimal (length c.spent))
     ∷ map (λ it. tabbed (spent_columns it)) c.spent
+
+-- the last line
+abbrev pub seal_of : Certificate → List ℕ
+seal_of c = codes "SHA256 " ++ encode_lower (sha256 (lines_text (lines_of c)))
 
 unfoldable pub text_of : Certificate → List ℕ
 text_of c = sealed (lines_text (lines_of c))

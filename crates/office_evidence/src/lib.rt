@@ -11,7 +11,9 @@
 pub mod laws;
 mod lines;
 mod parsed;
+mod reading;
 mod words;
 mod written;
 
 pub use parsed::{EntryLine, ParsedCertificate, SpentLine};
+pub use reading::read_certificate;

@@ -1,15 +1,13 @@
 //! The lines of a certificate, read again.
-ghost use Rattle.std.specs.Prelude.{◌≡◌, ◌∷◌, [], ℕ, List, codes, length, map, IfOk};
-ghost use Rattle.std.specs.List.{All};
+ghost use Rattle.std.specs.Prelude.{◌≡◌, List, codes, filter, length, map, nat_eq, MatchResult};
+ghost use Rattle.std.specs.List.{All, starts_with};
 ghost use Rattle.office_rules.specs.Certificates.{tabbed};
 ghost use Rattle.office_evidence.specs.Parsed.{IsWellFormedLine, IsWellFormedSpent, columns_of, spent_columns};
 ghost use Rattle.office_evidence.specs.Reading.{Gives};
 ghost use Rattle.office_evidence.specs.declared.parsed.EntryLine.{EntryLine};
 ghost use Rattle.office_evidence.specs.declared.parsed.SpentLine.{SpentLine};
 
-use crate::words::{
-    Unread, code_in, due_in, hold_in, number_in, outcome_in, parts, text_in,
-};
+use crate::words::{Unread, code_in, due_in, hold_in, number_in, outcome_in, parts, text_in};
 use crate::{EntryLine, SpentLine};
 use office_rules::read_digest;
 use std::alloc::Global;
@@ -42,4 +40,86 @@ fn entry_of(alloc: Global, words: &[&str]) -> Result<EntryLine, Unread>
         length,
         digest,
     })
+}
+
+/// The line of an entry.
+fn read_entry(alloc: Global, line: &str) -> Result<EntryLine, Unread>
+    ensures { (it : EntryLine) → IsWellFormedLine it → line.now ≡ tabbed (columns_of it)
+        → Gives result it }
+{
+    let words = parts(alloc, line, '\t')?;
+    if words.len() != 11 {
+        return Err(Unread::NotThere);
+    }
+    entry_of(alloc, &words)
+}
+
+/// The line of a spent aggregation with these words.
+fn spent_of(alloc: Global, words: &[&str]) -> Result<SpentLine, Unread>
+    requires { length words.now ≡ 3 }
+    ensures { (it : SpentLine) → IsWellFormedSpent it
+        → map (λ word. word.now) words.now ≡ spent_columns it → Gives result it }
+{
+    let number = number_in(words[1]).ok_or(Unread::NotThere)?;
+    let ref_text = text_in(alloc, words[2])?;
+    Ok(SpentLine { number, ref_text })
+}
+
+/// The line of a spent aggregation.
+fn read_spent(alloc: Global, line: &str) -> Result<SpentLine, Unread>
+    ensures { (it : SpentLine) → IsWellFormedSpent it → line.now ≡ tabbed (spent_columns it)
+        → Gives result it }
+{
+    let words = parts(alloc, line, '\t')?;
+    if words.len() != 3 {
+        return Err(Unread::NotThere);
+    }
+    spent_of(alloc, &words)
+}
+
+/// Whether the line is that of an entry.
+fn is_entry(line: &str) -> bool
+    ensures { result ≡ starts_with nat_eq line.now (codes "ENTRY") }
+{
+    line.starts_with("ENTRY")
+}
+
+/// Whether the line is that of a spent aggregation.
+fn is_spent(line: &str) -> bool
+    ensures { result ≡ starts_with nat_eq line.now (codes "AGGREGATION") }
+{
+    line.starts_with("AGGREGATION")
+}
+
+/// The lines of entries among these.
+pub(crate) fn entries_in(alloc: Global, lines: &[&str]) -> Result<Vec<EntryLine>, Unread>
+    ensures { (them : List EntryLine) → All IsWellFormedLine them
+        → filter (λ line. starts_with nat_eq line (codes "ENTRY")) (map (λ line. line.now) lines.now)
+        ≡ map (λ it. tabbed (columns_of it)) them
+        → MatchResult result (λ read. read.items ≡ them) (λ e. e ≡ Unread.Memory) }
+{
+    let mut entries = Vec::new(alloc);
+    for line in lines {
+        if is_entry(line) {
+            entries.push(read_entry(alloc, line)?)?;
+        }
+    }
+    Ok(entries)
+}
+
+/// The lines of spent aggregations among these.
+pub(crate) fn spent_in(alloc: Global, lines: &[&str]) -> Result<Vec<SpentLine>, Unread>
+    ensures { (them : List SpentLine) → All IsWellFormedSpent them
+        → filter (λ line. starts_with nat_eq line (codes "AGGREGATION"))
+        (map (λ line. line.now) lines.now)
+        ≡ map (λ it. tabbed (spent_columns it)) them
+        → MatchResult result (λ read. read.items ≡ them) (λ e. e ≡ Unread.Memory) }
+{
+    let mut spent = Vec::new(alloc);
+    for line in lines {
+        if is_spent(line) {
+            spent.push(read_spent(alloc, line)?)?;
+        }
+    }
+    Ok(spent)
 }

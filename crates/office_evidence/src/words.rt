@@ -18,7 +18,7 @@ use office_base::Memory;
 use office_days::{Day, DueDay};
 use office_records::{Code, Text};
 use office_rules::Outcome;
-use std::alloc::{AllocError, Global};
+use std::alloc::{AllocError, AllocFailed, Global};
 
 /// Why something was not read.
 #[derive(Clone, Copy, PartialEq, Eq, Debug)]
@@ -36,6 +36,28 @@ impl From<Memory> for Unread {
     ghost from_gives = { λ _ unread. unread ≡ Memory };
 
     fn from(_memory: Memory) -> Unread {
+        Unread::Memory
+    }
+}
+
+impl From<AllocError> for Unread {
+    ghost use Rattle.std.specs.Prelude.{◌≡◌};
+    ghost use Rattle.office_evidence.specs.declared.words.Unread.TheVariants.{Memory};
+
+    ghost from_gives = { λ _ unread. unread ≡ Memory };
+
+    fn from(_refused: AllocError) -> Unread {
+        Unread::Memory
+    }
+}
+
+impl<T: Drop> From<AllocFailed<T>> for Unread {
+    ghost use Rattle.std.specs.Prelude.{◌≡◌};
+    ghost use Rattle.office_evidence.specs.declared.words.Unread.TheVariants.{Memory};
+
+    ghost from_gives = { λ _ unread. unread ≡ Memory };
+
+    fn from(_refused: AllocFailed<T>) -> Unread {
         Unread::Memory
     }
 }

@@ -239,7 +239,11 @@ fn push_aggregation(alloc: Global, text: &mut String, it: &SpentLine) -> Result<
         ≡ string_bytes text.old ++ lines_text (tabbed (spent_columns it.now) ∷ [])) }
 {
     let number = number_word(alloc, it.number as u64)?;
-    push_words(alloc, text, &["AGGREGATION", number.as_str(), it.ref_text.text()])
+    push_words(
+        alloc,
+        text,
+        &["AGGREGATION", number.as_str(), it.ref_text.text()],
+    )
 }
 
 /// Appends the line of each spent aggregation.

@@ -1,4 +1,4 @@
-use Rattle.std.proofs.Common.{ap, List, ℕ, Option, Some, None, lit<}
+use Rattle.std.proofs.Common.{ap, List, ℕ, Some, None, lit<}
 use Rattle.std.proofs.lemmas.Str.Pattern.{split_after}
 use Rattle.office_evidence.proofs.words.reported.Goals as goal
 

@@ -1,4 +1,4 @@
-use Rattle.std.proofs.Common.{◌≡◌, ◌∙◌, ap, subst, ◌++◌, [], ◌∷◌, List, ℕ, OnOk, codes}
+use Rattle.std.proofs.Common.{◌≡◌, ◌∙◌, subst, ◌++◌, [], ◌∷◌, List, ℕ, OnOk, codes}
 use Rattle.std.specs.Fmt.{decimal}
 use Rattle.std.specs.String.{string_bytes}
 use Rattle.office_rules.specs.Certificates.{lines_text, tabbed}
