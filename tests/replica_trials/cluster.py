@@ -19,7 +19,7 @@ TOP = pathlib.Path(__file__).resolve().parent.parent.parent
 OFFICE = str(pathlib.Path(os.environ.get("OFFICE", TOP / "crates/office/out/office")).resolve())
 REPLICAS = pathlib.Path(os.environ.get("REPLICAS", TOP / "replicas")).resolve()
 """the program of a member"""
-LONGEST_WAIT = 900
+LONGEST_WAIT = float(os.environ.get("TRIAL_PATIENCE", "900"))
 FAULTS = (OSError, http.client.HTTPException, ValueError)
 
 

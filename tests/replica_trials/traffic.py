@@ -10,7 +10,7 @@ import uuid
 from dataclasses import dataclass
 
 from replica_trials.acts import NOT_ACTS, Act, Maker, as_body
-from replica_trials.cluster import FAULTS, Cluster, Place, Reply, ask
+from replica_trials.cluster import FAULTS, LONGEST_WAIT, Cluster, Place, Reply, ask
 
 RETRY_SECONDS = 0.05
 NOTHING_PUT = ("quorum", "recovering", "busy", "full")
@@ -76,8 +76,9 @@ class Traffic:
     def stop(self) -> None:
         """Afterwards each request with a key has its answer."""
         self.stopping.set()
+        until = time.monotonic() + LONGEST_WAIT
         for thread in self.threads:
-            thread.join(600)
+            thread.join(max(0.1, until - time.monotonic()))
             if thread.is_alive():
                 self.faults.append("a client hangs")
 
