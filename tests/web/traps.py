@@ -72,7 +72,7 @@ def hold_on_paper(story: Story) -> None:
 
 
 def stale(story: Story) -> None:
-    """A list says of when it is, and is read anew by a press."""
+    """A list says of when it is, and is read anew by a press and whenever its view shows."""
     it = story.browser
     it.open(f"{story.proxy.page}#due")
     before = it.table("#due-table")
@@ -80,6 +80,12 @@ def stale(story: Story) -> None:
     town.send(story.office, town.confirm(after(0), [5], "destroy"))
     it.press("#due-anew")
     judge("due: a press reads it anew", it.table("#due-table") != before)
+    numbers = lambda: [row[1] for row in it.table("#due-table")]
+    before = numbers()
+    it.go("#run")
+    town.send(story.office, [{"act": "review", "day": after(0), "record": 17, "schedule": None, "by": WHO}])
+    it.go("#due")
+    same("due: and so does its showing again", numbers(), [number for number in before if number != "17"])
 
 
 def marks(story: Story) -> None:
