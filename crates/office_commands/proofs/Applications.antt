@@ -9,8 +9,11 @@ use Rattle.office_rules.specs.declared.act.Act.{Act}
 use Rattle.office_rules.specs.declared.answer.Answer.{Answer}
 use Rattle.office_store.specs.declared.fault.Fault.{Fault}
 use Rattle.office_desk.specs.Outcomes.{acts_outcome, answers_of}
-use Rattle.office_json.specs.Lists.{acts_in}
-use Rattle.office_commands.specs.Applying.{Applies, ApplyEnds, Performs, TextEnds}
+use Rattle.office_json.specs.Lists.{IsListFault, acts_in, bad_act, not_json}
+use Rattle.office_json.specs.declared.lists.ListFault.{ListFault}
+use Rattle.office_json.specs.declared.lists.ListFault.TheVariants as list
+use Rattle.office_commands.specs.Applying.{Applies, ApplyEnds, IsUnread, Performs, TextEnds}
+use Rattle.office_commands.specs.Endings.{ending_of_list}
 use Rattle.office_commands.specs.declared.ending.Ending.{Ending}
 
 -- where none was there, the answers are those of the outcome
@@ -22,6 +25,12 @@ answers_alone (Err f) found = refl
 pub applies_of : (Of Others : (State → Type 0) → Type 0) → ((P : State → Type 0) → Of P → Others P) → (text : List ℕ) (new : FileState) (written after : Option (List ℕ)) (e : Ending) → Applies Of text new written after e → Applies Others text new written after e
 applies_of Of Others to text new written after e (inl unread) = inl (unread.0, to _ unread.1, unread.2)
 applies_of Of Others to text new written after e (inr (acts, read, it)) = inr (acts, read, record { outcome = it.outcome; reported = it.reported; came = to _ it.came })
+
+-- a text that was not read as acts is reported so
+pub unread_by : (text : List ℕ) (fault : ListFault) (e : Ending) → IsListFault (acts_in text) fault → e ≡ ending_of_list fault → IsUnread text e
+unread_by text list.NotJson e why is = inl (not_json, why, is)
+unread_by text (list.BadAct place refusal) e why is = inl (bad_act place refusal, why, is)
+unread_by text list.Memory e why is = inr is
 
 -- the acts of a text that were performed were applied
 pub performs_applies : (Of : (State → Type 0) → Type 0) (text : List ℕ) (new : FileState) (written after : Option (List ℕ)) (e : Ending) (acts items : List Act) → acts ≡ items → acts_in text ≡ Ok items

@@ -9,7 +9,7 @@ use Rattle.office_rules.specs.declared.answer.Answer.{Answer}
 use Rattle.office_desk.specs.Fates.{AreContentsAfter}
 use Rattle.office_desk.proofs.Found.{after-append}
 use Rattle.office_desk.proofs.StepFates.{after_run, run_steps}
-use Rattle.office_csv.specs.ImportRows.{Fields, act_asked}
+use Rattle.office_csv.specs.ImportRows.{Fields, parsed_row}
 use Rattle.office_wire.specs.Importing.{AreRowsDone, IsAnsweredBy}
 use Rattle.office_command_line.specs.Orders as command
 use Rattle.office_command_line.specs.Orders.{Command}
@@ -35,7 +35,7 @@ row_to s t answer (Err why) (reported, is) = none_to s t is
 
 rows_to : (day : ℤ) (s t : State) (rows : List Fields) (answers : List Answer) → AreRowsDone day s rows answers t → LeadsTo s t
 rows_to day s t [] answers (none, is) = none_to s t is
-rows_to day s t (row ∷ rows) answers (answer, rest, m, reported, one, all) = further s m t (row_to s m answer (act_asked day row) one) (rows_to day m t rows rest all)
+rows_to day s t (row ∷ rows) answers (answer, rest, m, reported, one, all) = further s m t (row_to s m answer (parsed_row day row) one) (rows_to day m t rows rest all)
 
 -- ---- one run
 
@@ -45,7 +45,7 @@ order_to (command.apply file acts) text written after ending s u (inr it) = elim
 order_to (command.import file day csv) text written after ending s u (inl none) = none_to s u none.0
 order_to (command.import file day csv) text written after ending s u (inr it) =
     let reached = rows_to day s it.reached it.rows it.answers it.done in
-    elim it.state [ inl is ↦ subst (LeadsTo s) (sym is) reached | inr more ↦ further s it.reached u reached (row_to it.reached u more.1 (act_asked day more.0) more.2) ]
+    elim it.state [ inl is ↦ subst (LeadsTo s) (sym is) reached | inr more ↦ further s it.reached u reached (row_to it.reached u more.1 (parsed_row day more.0) more.2) ]
 order_to (command.resume file) text written after ending s u it = (run_steps it.count, it.state ∙ sym (after_run it.count s))
 order_to (command.init file) text written after ending s u same = none_to s u same
 order_to (command.export file register) text written after ending s u same = none_to s u same

@@ -25,15 +25,16 @@ fn apply_at<W: Write, S: Alter>(
         (state S.Store desk.new.held) (W.contents out.old) (W.contents out.new) result }
     ensures rest { SparesTheRest S.Store desk.old desk.new }
 {
-    let acts = match read_acts(alloc, text) {
-        Ok(acts) => acts,
-        Err(fault) => return Ending::from(fault),
-    };
-    let mut answers = Vec::new(alloc);
-    let done = desk.perform_all(acts.as_slice(), &mut answers);
-    match write_answers(answers.as_slice(), out) {
-        Ok(()) => Ending::of_acts(done, answers.as_slice()),
-        Err(_) => Ending::File,
+    match read_acts(alloc, text) {
+        Ok(acts) => {
+            let mut answers = Vec::new(alloc);
+            let done = desk.perform_all(acts.as_slice(), &mut answers);
+            match write_answers(answers.as_slice(), out) {
+                Ok(()) => Ending::of_acts(done, answers.as_slice()),
+                Err(_) => Ending::File,
+            }
+        }
+        Err(fault) => Ending::from(fault),
     }
 }
 
