@@ -26,6 +26,8 @@ mod case_tests;
 #[cfg(test)]
 mod due_tests;
 #[cfg(test)]
+mod evidence_tests;
+#[cfg(test)]
 mod hold_tests;
 #[cfg(test)]
 mod machine_calls;
