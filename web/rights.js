@@ -25,10 +25,17 @@ export async function load() {
 /** The text that each act names as `by`, if a gate says so: then nobody writes another. */
 export const signedBy = () => signs;
 
-/** Says why a view that acts shows no form, or not all. */
+/** Whether the view that is seen has forms, and all of them are left out since the name has none of their rights. */
+function isForOthers() {
+  const forms = [...document.querySelectorAll("section:not([hidden]) :is(.step, .drop)")];
+  return forms.length > 0 && forms.every((it) => getComputedStyle(it).display === "none");
+}
+
+/** Says why a view that acts shows no form. */
 export function tellRights() {
   const place = byId("rights");
   const acts = document.querySelector("section:not([hidden]) :is([data-field=day], #run-resume)") !== null;
   if (isReader && acts) say(place, "unknown", paragraph(t("page.reader")));
+  else if (isForOthers()) say(place, "unknown", paragraph(t("page.notYours")));
   else quiet(place);
 }

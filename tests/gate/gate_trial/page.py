@@ -19,7 +19,7 @@ from gate_trial.proxy import PASSWORD, Proxy
 from gate_trial.roles import MAY, READS
 from gate_trial.world import OFFICE, TOP, World, today
 
-ROLES = ("registry", "records-manager", "legal", "department", "auditor", "archive")
+ROLES = ("department", "legal", "archive", "auditor", "registry", "records-manager")
 LANGUAGES = {"en-US": "en", "de-DE": "de"}
 PICTURES = os.environ.get("PICTURES")
 WAIT = 120
@@ -78,8 +78,9 @@ class Browser:
         raise AssertionError(f"{self.name}: the page goes on asking")
 
     def open(self, view: str) -> None:
-        self.driver.get("about:blank")
-        self.driver.get(f"{self.proxy.here}/city/web/#{view}")
+        """Goes to a view, as a link does."""
+        self.settled()
+        self.driver.execute_script("location.hash = arguments[0]", view)
         time.sleep(0.2)
         self.settled()
 
@@ -120,8 +121,8 @@ def tried(folder: pathlib.Path) -> None:
     world.place.chmod(0o666)
     proxy.start()
     fill(world, proxy, catalogues)
-    for language in LANGUAGES:
-        for role in ROLES:
+    for role in ROLES:
+        for language in LANGUAGES:
             signed_in(world, proxy, role, language)
     monitor(proxy)
     judge("the chain holds", world.check().returncode == 0, world.check().stderr)
@@ -165,6 +166,16 @@ def offered(it: Browser, role: str, view: str) -> None:
     for kind, css in [(kind, css) for kind, (place, css) in FORMS.items() if place == view]:
         there = kind in MAY[role] and not (kind == "event" and "records" not in READS[role])
         same(f"{role}, {it.language}: {view} offers {kind}", it.is_seen(css), there)
+    kinds = {kind for kind, (place, _) in FORMS.items() if place == view}
+    if view in ("plan", "holds", "file") and MAY[role] and not kinds & MAY[role]:
+        told = json.loads((TOP / f"web/texts/{LANGUAGES[it.language]}.json").read_text())["page"]["notYours"]
+        same(f"{role}, {it.language}: {view} says that it is for others", it.one("#rights").text, told)
+    if view == "import":
+        # a sheet may have acts of any kind
+        same(f"{role}, {it.language}: {view} takes a sheet", it.is_seen("#import-drop"), bool(MAY[role]))
+    if view == "plan":
+        heads = [head.text for head in it.driver.find_elements(By.CSS_SELECTOR, "#plan-forms > h2") if head.is_displayed()]
+        judge(f"{role}, {it.language}: no heading of the plan without a form", bool(heads) == bool(kinds & MAY[role]), heads)
 
 
 def read(it: Browser, role: str, view: str) -> None:

@@ -61,7 +61,8 @@ def hidden(world: World) -> None:
                  (name, [{"act": "lift-hold", "day": DAY, "hold": "H"}]))
         # a lift among others
         many = json.dumps([{"day": DAY, **filing(9, 1)}])[:-1] + "," + body.strip()[1:]
-        same(f"lift {at} beside a filing", world.text("registry", many)[0], 403)
+        status, said = world.text("registry", many)
+        same(f"lift {at} beside a filing", (status, said), (403, {"error": "right", "act": "lift-hold", "place": 1}))
         noted = world.last("refused")["acts"]
         same(f"lift {at} beside a filing is in the journal", noted[-1], {"act": "lift-hold", "day": DAY, "hold": "H"})
 

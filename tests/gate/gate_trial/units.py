@@ -65,7 +65,7 @@ class Clients:
         """Looks at what they saw: all was answered, but for so many requests whose answer a kill took."""
         found = self.seen["statuses"]
         others = sum(count for status, count in found.items() if status != "200")
-        judge(f"{what}: each request has its answer", found.get("200", 0) > 20 and others <= lost
+        judge(f"{what}: each request has its answer", found.get("200", 0) > 5 and others <= lost
               and set(found) <= {"200", "502"}, self.seen["statuses"])
         print(f"{what}: {found}, the slowest {self.seen['slowest']:.1f} s", flush=True)
 
@@ -205,7 +205,7 @@ def rotated(it: Machine) -> None:
     said = it.done(f"journalctl -u {GATE} --grep head > heads; office-journal check {JOURNAL} --heads heads",
                    "with the heads of systemd's journal")
     judge("heads were compared", int(said.rsplit(" ", 1)[1]) > 5, said)
-    said = it.run(f"cp {JOURNAL}-20260101 /root/kept; chattr -a {JOURNAL}-20260101; sed -i '3s/asked/asket/' "
+    said = it.run(f"cp {JOURNAL}-20260101 /root/kept; chattr -a {JOURNAL}-20260101; sed -i '3s/\"at\":\"2/\"at\":\"3/' "
                   f"{JOURNAL}-20260101; office-journal check {JOURNAL}")
     same("a line that root changed is found", said[0], 1)
     it.done(f"cat /root/kept > {JOURNAL}-20260101; office-journal check {JOURNAL}", "and put back")
