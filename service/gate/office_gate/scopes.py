@@ -59,9 +59,7 @@ class Scopes:
             return self.both(act, "aggregation")
         if kind in OF_RECORD:
             return [await self.class_of_record(number_in(act, "record"))]
-        if kind == "reclassify":
-            return await self.of_reclassified(act)
-        if kind in ("hold-on", "hold-off"):
+        if kind in ("reclassify", "hold-on", "hold-off"):
             return [await self.of_target(act.get("target"))]
         return [None]
 
@@ -82,12 +80,8 @@ class Scopes:
             return self.class_of(number_of(name))
         return await self.class_of_record(number_of(name)) if kind == "record" else None
 
-    async def of_reclassified(self, act: Json) -> Scope:
-        """The class that the target has, and the one that it gets."""
-        return [await self.of_target(act.get("target")), await self.given_by(act)]
-
     async def given_by(self, act: Json) -> str | None:
-        """The class that a target gets: its own, or else what it then inherits."""
+        """The class that an act of reclassifying gives: an own one, or else what its target then inherits."""
         if act.get("class") is not None:
             return text(act["class"])
         kind, name = split(act.get("target"))
@@ -98,7 +92,7 @@ class Scopes:
         return self.class_of(self.aggregations.parents.get(number or 0))
 
     async def given_in(self, acts: list[Json]) -> Scope:
-        """The classes that the list gives to things: within the list a thing may have any of these."""
+        """The classes that the list gives to things: within the list a thing may have any of these, and gets one."""
         return [await self.given_by(it) for it in acts if it["act"] == "reclassify"]
 
 
