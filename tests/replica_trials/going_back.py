@@ -106,6 +106,7 @@ def never_back(cluster: Cluster) -> None:
     cluster.wait_for(2, least)
     judge_seen("a member that does its log anew answers once it is at its end", watcher.stop(), least)
     kept = keep_etcd(cluster, [2])
+    shorter = cluster.position(2)
     for number in range(20):
         posted(cluster, 2, [record(20_000 + number)])
     least = cluster.position(2)
@@ -117,9 +118,12 @@ def never_back(cluster: Cluster) -> None:
     cluster.file(2).unlink()
     cluster.signal("member2", signal.SIGHUP)
     began = time.monotonic()
-    while cluster.journal("member2").count("from a snapshot") < 2 and time.monotonic() - began < 60:
+    while cluster.journal("member2").count("from a snapshot") < 2 and time.monotonic() - began < 120:
         time.sleep(0.1)
-    time.sleep(5)
+    while cluster.position(2) < shorter and time.monotonic() - began < 240:
+        time.sleep(0.1)
+    time.sleep(2)
+    judge("never back: such a member has done what its etcd has", shorter <= cluster.position(2) < least, cluster.state(2))
     judge_seen("nor does one whose etcd came back alone, with less, show what it was before", watcher.stop(), least, False)
     for machine in (0, 1):
         cluster.start_etcd(machine)
