@@ -131,6 +131,10 @@ def filer(world: World) -> None:
     eyes(world, "after a filing with a schedule", "carl", "changer-does-not-open", OPEN)
     same("anna opens", world.act("anna", OPEN)[0], 200)
     same("berta carries it out", resume(world, "berta"), 200)
+    record = world.act("registry", filing(32, 1))[1][0]["number"]
+    same("anna confirms, and berta after her", [world.act(it, confirm(record))[0] for it in ("anna", "berta")], [200, 200])
+    same("the last one counts", world.act("anna", OPEN)[0], 200)
+    same("berta carries it out", resume(world, "berta"), 200)
     record = world.act("carl", filing(31, 1))[1][0]["number"]
     same("berta confirms", world.act("berta", confirm(record))[0], 200)
     same("a filing without one does not count", world.act("carl", OPEN)[0], 200)

@@ -19,10 +19,10 @@ from gate_trial.proxy import PASSWORD, Proxy
 from gate_trial.roles import MAY, READS
 from gate_trial.world import OFFICE, TOP, World, today
 
-ROLES = ("department", "legal", "archive", "auditor", "registry", "records-manager")
+ROLES = ("legal", "archive", "auditor", "registry", "records-manager", "department")
 LANGUAGES = {"en-US": "en", "de-DE": "de"}
 PICTURES = os.environ.get("PICTURES")
-WAIT = 120
+WAIT = 300
 VIEWS = ("todo", "due", "overdue", "record?number=1", "file", "import", "plan", "run", "certificate?number=1", "holds",
          "catalogue")
 # where the page offers an act of each kind, if the name may do it

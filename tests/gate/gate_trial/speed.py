@@ -1,5 +1,6 @@
-"""Requests a second, and milliseconds, through nginx and the gate, beside nginx alone."""
+"""Requests a second and milliseconds through nginx and the gate, beside nginx alone, and what the gate itself takes."""
 import json
+import os
 import pathlib
 import re
 import shutil
@@ -36,14 +37,23 @@ def tried(folder: pathlib.Path) -> None:
                               ("a list of no acts", "/city/acts", ["-p", folder / "none"]),
                               ("an act that is refused", "/city/acts", ["-p", folder / "acts"])):
         for clients in CLIENTS:
-            found = {name: measured(it, path, clients, words) for name,
-                     it in (("nginx alone", alone), ("with the gate", gated))}
+            found = {"nginx alone": measured(alone, path, clients, words)}
+            before = processor(world)
+            found["with the gate"] = measured(gated, path, clients, words)
+            spent = (processor(world) - before) / COUNT
             told = ", ".join(f"{name} {rate:.0f} a second, {middle} ms" for name, (rate, middle) in found.items())
-            print(f"{what}, {clients} at once: {told}", flush=True)
+            print(f"{what}, {clients} at once: {told}; the gate took {spent:.2f} ms of a processor for each", flush=True)
             judge(f"{what}, {clients} at once", all(rate > 0 for rate, _ in found.values()), found)
     for it in (gated, alone):
         it.stop()
     world.end()
+
+
+def processor(world: World) -> float:
+    """Returns how many milliseconds of a processor the gate had so far."""
+    assert world.gate is not None
+    fields = pathlib.Path(f"/proc/{world.gate.pid}/stat").read_text().rsplit(")", 1)[1].split()
+    return (int(fields[11]) + int(fields[12])) * 1000 / os.sysconf("SC_CLK_TCK")
 
 
 def measured(it: Proxy, path: str, clients: int, words: list) -> tuple[float, int]:
