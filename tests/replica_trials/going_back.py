@@ -122,7 +122,7 @@ def never_back(cluster: Cluster) -> None:
         time.sleep(0.1)
     while cluster.position(2) < shorter and time.monotonic() - began < 240:
         time.sleep(0.1)
-    time.sleep(2)
+    time.sleep(15)
     judge("never back: such a member has done what its etcd has", shorter <= cluster.position(2) < least, cluster.state(2))
     judge_seen("nor does one whose etcd came back alone, with less, show what it was before", watcher.stop(), least, False)
     for machine in (0, 1):
