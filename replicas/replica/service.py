@@ -105,6 +105,8 @@ class Service:
             return Answer(None, "recovering")
         if status_of(content, method == "HEAD") is None:
             return Answer(None, "recovering")
+        if is_limited and self.freshness.is_behind(position):
+            return Answer(None, "behind")  # the office took long, and entries came meanwhile
         return Answer(position, content, self.age())
 
     def ask_if_free(self, seconds: float) -> None:

@@ -4,6 +4,7 @@ from __future__ import annotations
 import os
 import re
 import signal
+import threading
 import time
 
 from replica_trials.cluster import FAULTS, Cluster, Reply, ask
@@ -88,6 +89,30 @@ def seen(cluster: Cluster) -> None:
     judge("seen: answers to acts, errors and /replica tell an age too", all(age_of(it) <= 10 for it in replies), replies)
     numbers(cluster)
     same_rows(cluster, "seen")
+
+
+def slow_reading(cluster: Cluster) -> None:
+    """An office that answers a reading slowly, while entries come: the reading is not older than the limit."""
+    cluster.settings.update(age_limit=4)
+    begun(cluster)
+    cluster.wait_for(2, cluster.position(0))
+    office, replies = cluster.office_process(2), []
+    judge("slow reading: member 2 has an office", office is not None)
+    if office is None:
+        return
+    os.kill(office, signal.SIGSTOP)
+    reader = threading.Thread(target=lambda: replies.append(get(cluster, 2, "/records/1")))
+    reader.start()
+    time.sleep(1)
+    posted(cluster, 0, [record(5)])
+    time.sleep(8)
+    os.kill(office, signal.SIGCONT)
+    reader.join(60)
+    judge("slow reading: what would be older than the limit once it is answered is 503 behind",
+          [it.body for it in replies] == [b'{"error":"behind"}'], replies)
+    cluster.wait_for(2, cluster.position(0), 60)
+    judge("slow reading: the next one is answered", get(cluster, 2, "/records/1").status == 200)
+    same_rows(cluster, "slow reading")
 
 
 def numbers(cluster: Cluster) -> None:

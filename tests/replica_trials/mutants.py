@@ -113,8 +113,9 @@ MUTANTS = [
            "        try:\n            return self.asked(method, path, wanted != ANY, self.limit)\n        finally:\n"
            "            self.follower.office.lock.release()\n",
            "        return self.asked(method, path, wanted != ANY, self.limit)\n", "partitions"),
-    Mutant("a reading may be of any age", "service.py", "        if is_limited and self.freshness.is_behind(position):\n",
-           "        if False:\n", "isolated"),
+    Mutant("a reading may be of any age", "service.py", "wanted != ANY, self.limit)", "False, self.limit)", "isolated"),
+    Mutant("how old a reading is, is not looked at once more when the office has answered", "service.py",
+           "            return Answer(None, \"behind\")  # the", "            pass  # the", "slow_reading"),
     Mutant("an age counts from the answer of the majority, not from the question", "freshness.py",
            "        asked = now()\n        tail = self.log.tail()\n", "        tail = self.log.tail()\n        asked = now()\n", "late"),
     Mutant("FILE is taken for complete one entry too early", "freshness.py",
