@@ -95,7 +95,7 @@ def listed(it: Browser, proxy: Proxy) -> None:
     same(
         "German: a schedule in words",
         shown["COR-3"],
-        ["mit der letzten Ablage in der Akte", "3 Jahre", "ab dem nächsten Quartalsersten", "vernichten"],
+        ["mit dem letzten Zugang der Akte", "3 Jahre", "ab dem nächsten Quartalsersten", "vernichten"],
     )
     catalogue.pictures(it, proxy, *GERMAN_PICTURES, "park")
 
