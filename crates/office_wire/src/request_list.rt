@@ -25,11 +25,12 @@ pub struct RequestList<'a> {
 
 impl<'a> RequestList<'a> {
     ghost use Rattle.std.specs.Prelude.{◌≡◌, [], map};
-    ghost use Rattle.office_wire.specs.RequestLists.{sent_of, told_of};
+    ghost use Rattle.office_wire.specs.RequestLists.{sent_of, traffic_of};
 
     /// These requests, none of which was served.
     pub fn new(alloc: Global, requests: &'a [&'a [u8]]) -> RequestList<'a>
-        ensures { told_of result ≡ record { coming = map (λ bytes. bytes.now) requests.now; sent = [] } }
+        ensures { traffic_of result
+            ≡ record { coming = map (λ bytes. bytes.now) requests.now; sent = [] } }
     {
         RequestList {
             alloc,
@@ -41,7 +42,7 @@ impl<'a> RequestList<'a> {
 
     /// What went out to each request that was served, in their order.
     pub fn into_answers(self) -> Vec<SentAnswer>
-        ensures { sent_of result.items ≡ (told_of self.entry).sent }
+        ensures { sent_of result.items ≡ (traffic_of self.entry).sent }
     {
         self.answers
     }
@@ -49,13 +50,13 @@ impl<'a> RequestList<'a> {
 
 impl<'a> ConnectionSource for RequestList<'a> {
     ghost use Rattle.std.specs.Prelude.{◌<◌, Some, vec_capacity, vec_len};
-    ghost use Rattle.office_wire.specs.RequestLists.{told_of};
+    ghost use Rattle.office_wire.specs.RequestLists.{traffic_of};
 
     type Reader = &'a [u8];
 
     type Writer = Vec<u8>;
 
-    ghost told = { λ it. Some (told_of it) };
+    ghost traffic = { λ it. Some (traffic_of it) };
 
     ghost is_open = { λ it. vec_len it.answers < vec_capacity it.answers };
 
