@@ -148,10 +148,10 @@ module _ {R W S : Type 0} (g : Ghosts S) (all : R → Option (List ℕ)) (reader
   some_next_served (Some before) mid reported closed accepted closes = next_served before mid reported closed accepted closes
 
 -- none came, and nothing was done
-pub none_came : {S : Type 0} (g : Ghosts S) (before reported : Option Traffic) (e : Io) (desk : DeskState S) → IfSome before (λ traffic_before. reported ≡ Some traffic_before)
+pub none_came : {S : Type 0} (g : Ghosts S) (before reported : Option Traffic) (e : Io) (desk : DeskState S) → IfSome before (λ traffic_before. (traffic_before.coming ≡ []) × (reported ≡ Some traffic_before))
     → IfSome before (λ traffic_before. IsNextServed g (Err e) traffic_before reported desk desk)
 none_came g None reported e desk same = tt
-none_came g (Some before) reported e desk same = inl (refl, refl, same)
+none_came g (Some before) reported e desk same = inl (refl, refl, same.1, same.0)
 
 -- ---- one after another
 
@@ -166,6 +166,7 @@ module _ {S : Type 0} (g : Ghosts S) (old : DeskState S) where
         traffic = ap (λ (x : List Sent). Some (record { coming = before.coming; sent = x })) (sym (append-nil before.sent));
         exchanged = none;
         each = λ all. refl;
+        all = inl refl;
       }
 
   pub some_none_served : (before : Option Traffic) → IfSome before (λ traffic_before. AreServed g 0 false traffic_before before old old)
@@ -180,9 +181,14 @@ module _ {S : Type 0} (g : Ghosts S) (old : DeskState S) where
   not_failed true b neither = neither
   not_failed false b neither = refl
 
-  more_after : (n : ℕ) (failed : Bool) (before : Traffic) (reported : Option Traffic) (status : Result ℕ Io) (mid new : DeskState S) (came rest : List (List ℕ)) (sent : List Sent) → before.coming ≡ came ++ rest → AreExchanged g old came sent mid → (failed ≡ false → length sent ≡ n)
+  -- of as many as were awaited, one came more
+  came_more : (n : ℕ) (bytes : List ℕ) (rest later : List (List ℕ)) (sent : List Sent) (it : Sent) → rest ≡ bytes ∷ later → (length sent ≡ n) ⊎ (rest ≡ []) → length (sent ++ it ∷ []) ≡ n + 1
+  came_more n bytes rest later sent it next (inl so_far) = omega (arith, length-append sent (it ∷ []))
+  came_more n bytes rest later sent it next (inr gone) = absurd cc
+
+  more_after : (n : ℕ) (failed : Bool) (before : Traffic) (reported : Option Traffic) (status : Result ℕ Io) (mid new : DeskState S) (came rest : List (List ℕ)) (sent : List Sent) → before.coming ≡ came ++ rest → AreExchanged g old came sent mid → (failed ≡ false → length sent ≡ n) → (length sent ≡ n) ⊎ (rest ≡ [])
       → IsNextServed g status (record { coming = rest; sent = before.sent ++ sent }) reported mid new → AreServed g (n + 1) (failed || has_failed status) before reported old new
-  more_after n failed before reported status mid new came rest sent coming done each (inl (is, same, stays)) =
+  more_after n failed before reported status mid new came rest sent coming done each so_far (inl (is, same, stays, gone)) =
       record {
         came = came;
         rest = rest;
@@ -191,8 +197,9 @@ module _ {S : Type 0} (g : Ghosts S) (old : DeskState S) where
         traffic = stays;
         exchanged = subst (λ (d : DeskState S). AreExchanged g old came sent d) (sym same) done;
         each = λ all. absurd (never_failed failed (has_failed status) is all);
+        all = inr gone;
       }
-  more_after n failed before reported status mid new came rest sent coming done each (inr (bytes, later, it, next, goes, is, exchanged_so)) =
+  more_after n failed before reported status mid new came rest sent coming done each so_far (inr (bytes, later, it, next, goes, is, exchanged_so)) =
       record {
         came = came ++ bytes ∷ [];
         rest = later;
@@ -200,13 +207,14 @@ module _ {S : Type 0} (g : Ghosts S) (old : DeskState S) where
         coming = coming ∙ ap (λ (x : List (List ℕ)). came ++ x) next ∙ sym (append_assoc came (bytes ∷ []) later);
         traffic = goes ∙ ap (λ (x : List Sent). Some (record { coming = later; sent = x })) (append_assoc before.sent sent (it ∷ []));
         exchanged = one_more came sent bytes it mid new done exchanged_so;
-        each = λ all. let so_far = each (not_failed failed (has_failed status) all) in omega (arith, length-append sent (it ∷ []));
+        each = λ all. came_more n bytes rest later sent it next (inl (each (not_failed failed (has_failed status) all)));
+        all = inl (came_more n bytes rest later sent it next so_far);
       }
 
   more_served : (n : ℕ) (failed : Bool) (before : Traffic) (mid_traffic reported : Option Traffic) (status : Result ℕ Io) (mid new : DeskState S) → AreServed g n failed before mid_traffic old mid → IfSome mid_traffic (λ it. IsNextServed g status it reported mid new)
       → AreServed g (n + 1) (failed || has_failed status) before reported old new
   more_served n failed before mid_traffic reported status mid new it next =
-      more_after n failed before reported status mid new it.came it.rest it.sent it.coming it.exchanged it.each
+      more_after n failed before reported status mid new it.came it.rest it.sent it.coming it.exchanged it.each it.all
       (subst (λ (x : Option Traffic). IfSome x (λ a. IsNextServed g status a reported mid new)) it.traffic next)
 
   pub some_more_served : (n : ℕ) (failed : Bool) (before mid_traffic reported : Option Traffic) (status : Result ℕ Io) (mid new : DeskState S) → IfSome before (λ traffic_before. AreServed g n failed traffic_before mid_traffic old mid) → IfSome mid_traffic (λ it. IsNextServed g status it reported mid new)

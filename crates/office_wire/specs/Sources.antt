@@ -18,14 +18,14 @@ IsAccepted traffic bytes written after =
     (first : List ℕ) × (rest : List (List ℕ)) × (traffic.coming ≡ first ∷ rest) × (bytes ≡ Some first)
     × (written ≡ Some []) × (after ≡ Some (record { coming = rest; sent = traffic.sent }))
 
--- a connection was awaited; at an error none came
+-- a connection was awaited; at an error none came, since none is to come
 abbrev pub Accepts : {R W : Type 0} → (R → Option (List ℕ)) → (W → Option (List ℕ)) → Result (R × W) Io → Option Traffic
     → Option Traffic → Type 0
 Accepts all written accepted before after =
     IfSome before
     (λ traffic. MatchResult accepted
     (λ sides. IsAccepted traffic (all sides.0) (written sides.1) after)
-    (λ e. after ≡ Some traffic))
+    (λ e. (traffic.coming ≡ []) × (after ≡ Some traffic)))
 
 -- a connection was closed, and what went out on it is known
 abbrev pub Closes : Option (List ℕ) → Result ℕ Io → Result ℕ Io → Option Traffic → Option Traffic → Type 0

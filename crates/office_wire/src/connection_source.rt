@@ -20,7 +20,8 @@ pub trait ConnectionSource {
     /// A connection came that is not closed yet.
     ghost is_open: { Self → Type 0 } = { λ _. Unit {0} };
 
-    /// Waits for the next connection. `Io` comes where none came.
+    /// Waits for the next connection. `Io` comes if none came. A source that reports all bytes
+    /// returns it only if no connection is to come.
     fn accept(&mut self) -> Result<(Self::Reader, Self::Writer), Io>
         ensures reports { Accepts Self.Reader.remaining Self.Writer.contents result
             (traffic self.old) (traffic self.new) }
