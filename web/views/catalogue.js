@@ -23,6 +23,7 @@ const select = (name) => byId(`catalogue-${name}`);
 /** So many milliseconds after the last key the address has what is asked: a browser slows a page down that changes it at each key. */
 const STILL = 250;
 let later = 0;
+let soon = 0;
 
 const FOUND = { records: new FoundRecords(() => tellMarks()), aggregations: new FoundAggregations(() => tellMarks()) };
 const BARS = {};
@@ -233,6 +234,16 @@ async function draw() {
   if (asked.part === "records") setTimeout(warm, 20);
 }
 
+/**
+ * Looks for what is written by now. If keys came faster than the page answered, those that wait are taken first: the
+ * question of the last one alone is answered.
+ */
+function typed() {
+  clearTimeout(soon);
+  if (navigator.scheduling?.isInputPending?.()) soon = setTimeout(typed);
+  else look();
+}
+
 /** Looks for what is written and chosen by now. */
 function look() {
   asked.text = select("text").value.trim();
@@ -292,8 +303,8 @@ function beforePaper() {
 }
 
 export function start() {
-  select("text").addEventListener("input", look);
-  select("due-day").addEventListener("input", look);
+  select("text").addEventListener("input", typed);
+  select("due-day").addEventListener("input", typed);
   for (const name of ALL_FILTERS) select(name).addEventListener("change", look);
   byId("catalogue-search").addEventListener("submit", (event) => event.preventDefault());
   for (const name of Object.keys(FOUND)) {
