@@ -126,10 +126,10 @@ def tell(office: Office, proxy: Proxy, browser: Browser, folder: pathlib.Path) -
     status, body = proxy.ask("GET", "/catalogue/about.json", fields={"Accept-Encoding": "identity"})
     same("large: the catalogue has all records", (status, f'"records":{big_office.RECORDS}'.encode() in body), (200, True))
     browser.driver.execute_cdp_cmd("Performance.enable", {"timeDomain": "threadTicks"})
-    with browser.before_each_page("performance.setResourceTimingBufferSize(5000);" + WATCH):
-        for name, css in VIEWS.items():
-            view(browser, proxy, name.format(half=big_office.RECORDS // 2), css)
     browser.open(f"{proxy.page}#catalogue")
     judge("large: all are listed", f"of {big_office.RECORDS:,}" in browser.seen("#catalogue-count"), browser.seen("#catalogue-count"))
     typed.keys(browser)
     typed.alike(browser)
+    with browser.before_each_page("performance.setResourceTimingBufferSize(5000);" + WATCH):
+        for name, css in VIEWS.items():
+            view(browser, proxy, name.format(half=big_office.RECORDS // 2), css)
