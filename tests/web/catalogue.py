@@ -245,7 +245,7 @@ def pictures(
     more: str = "",
     sizes: Collection[str] = tuple(SIZES),
     schemes: Collection[str] = tuple(SCHEMES),
-    question: str = "bau goethe 17",
+    question: str = "bau goethe",
 ) -> None:
     """Each part; `more` follows its name. Records are those that the question finds."""
     def prepare(part: str) -> None:
