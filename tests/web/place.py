@@ -108,7 +108,7 @@ class Proxy:
         self.process = None
 
     def keys(self):
-        subprocess.run(["openssl", "req", "-x509", "-newkey", "rsa:3072", "-nodes", "-days", "2", "-subj", "/CN=localhost", "-addext",
+        subprocess.run(["openssl", "req", "-x509", "-newkey", "ec", "-pkeyopt", "ec_paramgen_curve:prime256v1", "-nodes", "-days", "2", "-subj", "/CN=localhost", "-addext",
                         "subjectAltName=DNS:localhost", "-keyout", self.folder / "office.key", "-out", self.folder / "office.crt"],
                        check=True, stderr=subprocess.DEVNULL)
         line = subprocess.run(["openssl", "passwd", "-6", PASSWORD], check=True, stdout=subprocess.PIPE).stdout.decode()

@@ -132,6 +132,8 @@ TRAPS = of(
      "holds: the targets are saved as CSV"),
     ("a day is broken", "css/paper.css", ".day { white-space: nowrap; overflow-wrap: normal; }", ".day { display: inline; word-break: break-all; }",
      "record?number=1: no day is broken at 400 pixels"),
+    ("a list is not read anew once its view shows", "views/list.js", "return this.open(this.question, true);", "return true;",
+     "due: and so does its showing again"),
     ("what is held is marked with the rest", "views/list.js", "(row.held !== null) === isHeld", "(!isHeld || row.held !== null)",
      "due: marking leaves out what is held"),
     ("the bar says no actions", "views/list.js", 'actionsOf(rows).map((it) => t("due.what", whatOf(it))).join(" ")', '""',
