@@ -71,7 +71,11 @@ function limits(count) {
 
 /** Asks what a run would do, by the list of its day. */
 async function make() {
-  open ??= await openByCatalogue();
+  if (open === null) {
+    const found = await openByCatalogue();
+    // this page may have opened one meanwhile
+    open ??= found;
+  }
   const written = byId("run-open-day").value.trim();
   const day = open?.day ?? (isDay(written) ? written : today());
   const answer = await getNewest(`due/${day}`);
