@@ -4,7 +4,7 @@ import { classOf, indexOf, treeOf } from "./plain/catalogue.js";
 import { Details } from "./plain/details.js";
 import { TEXTS, aggregationOrder, isOfDetails, recordOrder } from "./plain/finding.js";
 import { jsonOf } from "./plain/outcomes.js";
-import { foldedText, orderOfLines } from "./text_work.js";
+import { orderOfLines, searchableText } from "./text_work.js";
 
 /** The moment of what was read, or null where nothing was; what `about` says; its parts and what is made of them. */
 let moment = null;
@@ -96,7 +96,7 @@ export const aggregations = () => ofPart("aggregations", "aggregations", aggrega
 export const tree = () => ofPart("tree", "aggregations", treeOf);
 
 /** Makes ready what a search for words goes through: a search that comes before this is done waits for it. */
-export const makeReady = (index) => index.ready(foldedText);
+export const makeReady = (index) => index.ready(searchableText);
 
 /** What the office reports of each record beside that: days, class, schedule, length, due day and hold; null if it is not there. */
 export async function details() {

@@ -1,10 +1,10 @@
 // The texts of many rows, folded and ordered: of a large catalogue in a worker, else here.
-import { folded } from "./plain/catalogue.js";
+import { searchable } from "./plain/catalogue.js";
 import { lineOrder } from "./plain/finding.js";
 
 /** So many letters take the page so little time that a worker would begin later. */
 const FEW = 1000000;
-const HERE = { fold: folded, order: lineOrder };
+const HERE = { search: searchable, order: lineOrder };
 
 let worker = null;
 let isBroken = false;
@@ -43,11 +43,11 @@ async function ask(work, lines) {
 }
 
 /**
- * A text as it is searched.
+ * Lines as they are searched.
  * @param {string} lines
- * @returns {Promise<string>}
+ * @returns {Promise<{ text: string, starts: Uint32Array }>}
  */
-export const foldedText = (lines) => ask("fold", lines);
+export const searchableText = (lines) => ask("search", lines);
 
 /**
  * The positions of all lines in their order.

@@ -86,7 +86,7 @@ def records(count: int, files: list[int]):
         ], len(CONTENT), digest, "here", *(None,) * 10
 
 
-def make(file: pathlib.Path, count: int = RECORDS) -> None:
+def make(file: pathlib.Path, count: int | None = None) -> None:
     """An office that the program made, with rows that SQL adds while nobody has it open."""
     subprocess.run([OFFICE, "init", file], check=True, stdout=subprocess.DEVNULL)
     conn = sqlite3.connect(file, isolation_level=None)
@@ -100,7 +100,7 @@ def make(file: pathlib.Path, count: int = RECORDS) -> None:
     put("classes", CLASSES)
     there = aggregations()
     put("aggregations", there)
-    put("records", records(count, [row[0] for row in there if row[5] is None and row[3] and row[3] > DISTRICTS]))
+    put("records", records(count or RECORDS, [row[0] for row in there if row[5] is None and row[3] and row[3] > DISTRICTS]))
     conn.execute("INSERT INTO contents SELECT num, ? FROM records", (CONTENT,))
     put("holds", HOLDS)
     put(

@@ -1,14 +1,10 @@
-"""The catalogue: what the page says without one, what it lists and offers with one, and how fast it searches.
-
-The search goes through 200,000 records.
-"""
+"""The catalogue: what the page says without one, and what it lists and offers with one."""
 import contextlib
 import json
 import os
 import pathlib
 import shutil
 import sqlite3
-import statistics
 import subprocess
 from collections.abc import Collection, Iterator
 
@@ -23,26 +19,9 @@ from story import TEXTS, says
 
 WORDS = TEXTS["catalogue"]
 SERVICE = TOP / "service"
-MOST = 300
+# so many records are there for how it looks
+MANY = 2000
 VIEWS = {"records": "", "aggregations": "?part=aggregations", "schedules": "?part=schedules", "holds": "?part=holds"}
-# each letter of a question, from the key until the rows are drawn: milliseconds, and how many were found
-TYPED = """
-const [question, done] = arguments;
-const field = document.getElementById("catalogue-text"), count = document.getElementById("catalogue-count");
-const told = [];
-const type = (at) => {
-  if (at > question.length) return done(told);
-  const began = performance.now();
-  field.value = question.slice(0, at);
-  field.dispatchEvent(new InputEvent("input", { bubbles: true }));
-  requestAnimationFrame(() => setTimeout(() => {
-    const rows = document.querySelectorAll("#catalogue-part tbody tr").length;
-    told.push([performance.now() - began, count.textContent, rows]);
-    type(at + 1);
-  }));
-};
-type(1);
-"""
 OFFERS = "return Array.from(document.querySelectorAll('#offers option'), (it) => [it.value, it.label])"
 
 
@@ -260,42 +239,13 @@ def offers(it: Browser, proxy: Proxy) -> None:
     same("offers: none for the code of a new hold", it.one("#hold-place-code").get_attribute("list"), None)
 
 
-def large(it: Browser, proxy: Proxy) -> None:
-    """Letter by letter, until the rows are drawn."""
-    it.open(f"{proxy.page}#catalogue")
-    judge("large: all 200,000 are there", "of 200,000" in it.seen("#catalogue-count"), it.seen("#catalogue-count"))
-    times, every = [], []
-    for question in ("baugenehmigung goethestraße 17", "strasse", "kirchgasschen 99", "2013/st/0", "e", "zzz"):
-        it.one("#catalogue-text").clear()
-        rounds = [it.driver.execute_async_script(TYPED, question) for _ in range(3)]
-        keys = list(zip(*[[ms for ms, _, _ in told] for told in rounds], strict=True))
-        times += [min(key) for key in keys]
-        every += [ms for key in keys for ms in key]
-        print(f"{question!r}: at most {max(map(max, keys)):.0f} ms a key in three rounds; {rounds[0][-1][1]}")
-    load = os.getloadavg()[0]
-    median, worst, best = statistics.median(every), max(every), max(times)
-    print(f"{len(every)} keys: median {median:.0f} ms, worst {worst:.0f} ms, at a load of {load:.0f}")
-    words = f"at best of three the worst after {best:.0f}, at a load of {load:.0f}"
-    judge(f"large: each key is answered within {MOST} ms, {words}", best <= MOST)
-    it.write(catalogue_text="kirchgäßchen")
-    one = it.seen("#catalogue-count")
-    it.write(catalogue_text="KIRCHGASSCHEN")
-    same(
-        "large: accents, ß and case do not matter",
-        (one, it.seen("#catalogue-count")),
-        (WORDS["found"].format(count="20,000", all="200,000", shown=50),) * 2,
-    )
-    it.press("#catalogue-more")
-    same("large: more are shown when asked for", len(it.table("#catalogue-part .records")), 250)
-
-
 def pictures(
     it: Browser,
     proxy: Proxy,
     more: str = "",
     sizes: Collection[str] = tuple(SIZES),
     schemes: Collection[str] = tuple(SCHEMES),
-    question: str = "bau goethe 17",
+    question: str = "bau goethe",
 ) -> None:
     """Each part; `more` follows its name. Records are those that the question finds."""
     def prepare(part: str) -> None:
@@ -335,9 +285,8 @@ def tell(office: Office, proxy: Proxy, it: Browser, folder: pathlib.Path) -> Non
     tree(it, proxy)
     offers(it, proxy)
     big = folder / "big.db"
-    big_office.make(big)
+    big_office.make(big, MANY)
     make(proxy, big)
-    large(it, proxy)
     for part, words in VIEWS.items():
         readable(it, proxy, f"catalogue, {part}", f"#catalogue{words}")
     pictures(it, proxy)

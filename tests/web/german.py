@@ -26,6 +26,20 @@ const named = document.querySelectorAll("[aria-label], [title]");
 for (const it of named) found.push((it.getAttribute("aria-label") ?? it.title).trim());
 return [document.documentElement.lang, document.title, found.filter(Boolean)];
 """
+# what the page says of one of something
+OF_ONE = """
+const [keys, done] = arguments;
+import(new URL("page.js", document.baseURI)).then(({ plural }) => done(keys.map((key) => plural(key, 1))));
+"""
+ONES = {
+    "catalogue.minutes": "vor 1 Minute",
+    "catalogue.showAll": "Die andere zeigen",
+    "forecast.run.more": "1 weitere steht in der Liste des Fälligen.",
+    "forecast.run.grave": "1 Inhalt würde endgültig gelöscht.",
+    "forecast.rule.more": "1 weiteres Paar von Tagen.",
+    "todo.more": "1 weitere Zeile steht im Katalog.",
+    "approval.marked": "1, die ausgewählte",
+}
 NAMED = "return Array.from(document.querySelectorAll('[data-text]'), (it) => [it.dataset.text, it.textContent])"
 
 
@@ -81,6 +95,7 @@ def acts(it: Browser, proxy: Proxy) -> None:
         GERMAN["certificate.agrees"] in seen and GERMAN["certificate.wellFormed"] in seen,
         seen,
     )
+    same("German: one of something is said in the singular", it.driver.execute_async_script(OF_ONE, list(ONES)), list(ONES.values()))
     it.open(f"{proxy.page}#record?number=8")
     seen = it.seen("#record-words")
     judge("German: a record is described in German", GERMAN["record.status.destroyed"].format(run=1) in seen, seen)

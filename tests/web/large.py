@@ -1,4 +1,4 @@
-"""An office of 200,000 records with its catalogue: how long the page works until each view shows.
+"""An office of 200,000 records with its catalogue: how long the page works until each view shows, and at each key (typed.py).
 
 That is the processor's time of the page's thread, since others may use the machine: the best of three rounds. The time
 by the clock, and how much of it was waiting for answers, is printed beside it. Each view is opened anew, so that nothing
@@ -13,6 +13,7 @@ from collections.abc import Callable
 
 import big_office
 import catalogue
+import typed
 from browser import Browser
 from judging import judge, same
 from place import Office, Proxy
@@ -26,7 +27,7 @@ VIEWS = {
     "due": "#due-table tbody tr",
     "overdue": "#overdue-table tbody tr",
     "outlook": "#outlook-table tbody tr",
-    "record?number=150000": ".neighbours a",
+    "record?number={half}": ".neighbours a",
     "file": "#file-choose",
     "import": "#import-choose",
     "plan?close=500": "#plan-close-forecast strong",
@@ -87,16 +88,10 @@ requestAnimationFrame(() => window.watched(`section:not([hidden]) ${css}`, begun
 """
 
 
-def worked(it: Browser) -> float:
-    """How long the page's thread has worked since the document was opened, in milliseconds of the processor."""
-    metrics = it.driver.execute_cdp_cmd("Performance.getMetrics", {})["metrics"]
-    return next(metric["value"] for metric in metrics if metric["name"] == "TaskDuration") * 1000
-
-
 def timed(it: Browser, show: Callable[[], list[float]], before: float) -> list[float]:
     """What a view takes of the processor until it shows, by the clock, and of that waiting."""
     spans = show()
-    work = worked(it) - before
+    work = typed.worked(it) - before
     it.driver.execute_script("window.letGo()")
     it.settled()
     return [work, *spans]
@@ -115,7 +110,7 @@ def view(it: Browser, proxy: Proxy, name: str, css: str) -> None:
         rounds["opened"].append(timed(it, opened, 0))
         it.go("#fault")
         gone = lambda: it.driver.execute_async_script(GONE, f"#{name}", css)
-        rounds["gone to"].append(timed(it, gone, worked(it)))
+        rounds["gone to"].append(timed(it, gone, typed.worked(it)))
     for way, times in rounds.items():
         work, whole, waited = min(times)
         load = os.getloadavg()[0]
@@ -131,6 +126,10 @@ def tell(office: Office, proxy: Proxy, browser: Browser, folder: pathlib.Path) -
     status, body = proxy.ask("GET", "/catalogue/about.json", fields={"Accept-Encoding": "identity"})
     same("large: the catalogue has all records", (status, f'"records":{big_office.RECORDS}'.encode() in body), (200, True))
     browser.driver.execute_cdp_cmd("Performance.enable", {"timeDomain": "threadTicks"})
+    browser.open(f"{proxy.page}#catalogue")
+    judge("large: all are listed", f"of {big_office.RECORDS:,}" in browser.seen("#catalogue-count"), browser.seen("#catalogue-count"))
+    typed.keys(browser)
+    typed.alike(browser)
     with browser.before_each_page("performance.setResourceTimingBufferSize(5000);" + WATCH):
         for name, css in VIEWS.items():
-            view(browser, proxy, name, css)
+            view(browser, proxy, name.format(half=big_office.RECORDS // 2), css)

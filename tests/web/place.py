@@ -17,6 +17,8 @@ import time
 
 TOP = pathlib.Path(__file__).resolve().parent.parent.parent
 OFFICE = os.environ.get("OFFICE", str(TOP / "office"))
+# the page that is tried; mutants names another one
+WEB = pathlib.Path(os.environ.get("WEB", TOP / "web"))
 NAME, PASSWORD = "registrar", "a long one"
 NGINX = TOP / "service/nginx"
 # in place of Debian's nginx.conf
@@ -106,7 +108,7 @@ class Proxy:
         self.process = None
 
     def keys(self):
-        subprocess.run(["openssl", "req", "-x509", "-newkey", "rsa:3072", "-nodes", "-days", "2", "-subj", "/CN=localhost", "-addext",
+        subprocess.run(["openssl", "req", "-x509", "-newkey", "ec", "-pkeyopt", "ec_paramgen_curve:prime256v1", "-nodes", "-days", "2", "-subj", "/CN=localhost", "-addext",
                         "subjectAltName=DNS:localhost", "-keyout", self.folder / "office.key", "-out", self.folder / "office.crt"],
                        check=True, stderr=subprocess.DEVNULL)
         line = subprocess.run(["openssl", "passwd", "-6", PASSWORD], check=True, stdout=subprocess.PIPE).stdout.decode()
@@ -176,7 +178,7 @@ def served(folder: pathlib.Path, name: str, fill=lambda file: None):
     fill(file)
     office = Office(file, free_port())
     proxy = Proxy(place, office.port)
-    shutil.copytree(TOP / "web", proxy.web)
+    shutil.copytree(WEB, proxy.web)
     try:
         office.start()
         proxy.start()

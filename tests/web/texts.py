@@ -58,6 +58,27 @@ def places(text):
     return collections.Counter(re.findall(r"\{\w+\}|\"\w+\":?", text))
 
 
+# a count with a word beside it that fits many alone
+MANY = re.compile(
+    r"\{(?:count|covered|acts|requests|fit|hours|minutes|days)\}(?: (?:more|other|weitere))? "
+    r"(?:[a-z]+s|are|were|have|sind|waren|haben|wurden|werden|stehen|[A-ZÄÖÜ]\w*(?:en|er|e|n))\b"
+    r"|\b(?:[Tt]hese|[Tt]hose|other|[Dd]iese|anderen) \{count\}"
+)
+# texts whose count is never one: a limit, more than a limit, or said only if there are several
+NEVER_ONE = {
+    "catalogue.hours", "content.cut", "due.tooLong", "forecast.lift.sinceSome", "forecast.some", "import.wrong.large",
+    "import.wrong.long", "import.wrong.longCode", "marked.requests", "said.whole", "vault.one.submit",
+}
+# a text called so for what it says
+NOT_COUNTED = {"todo.first"}
+
+
+def unbent(texts):
+    """The texts that say of one what is said of many: they have no form for one."""
+    forms = (".one", ".many")
+    return sorted(key for key, text in texts.items() if MANY.search(text) and not key.endswith(forms) and key not in NEVER_ONE)
+
+
 def language(file, english):
     """A language has each text and no other, with the same places, and none is empty that is not so in English."""
     other = flat(json.loads(file.read_text()))
@@ -70,6 +91,10 @@ def language(file, english):
     changed = [key for key in both if FIXED.fullmatch(key) and other[key] != english[key]]
     same(f"{name} has the same names and statuses", changed, [])
     same(f"{name} names its language", other["lang"], file.stem)
+    same(f"{name} has a form for one wherever a count may be one", unbent(other), [])
+    pairs = {key.rpartition(".")[0] for key in other if key.endswith(".many")}
+    lone = sorted(key for key in pairs if f"{key}.one" not in other and key not in NOT_COUNTED)
+    same(f"{name} has a form for one beside each for many", lone, [])
 
 
 def named(page):

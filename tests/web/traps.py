@@ -3,6 +3,7 @@ from __future__ import annotations
 
 import json
 import pathlib
+import re
 import subprocess
 
 import town
@@ -35,11 +36,12 @@ window.fetch = async (...words) => {
   return there(...words);
 };
 """
-BEHIND = """
+# a browser's clock that goes wrong by so many hours
+WRONG = """
 const Real = Date;
 window.Date = class extends Real {
-  constructor(...words) { words.length ? super(...words) : super(Real.now() - 3 * 3600000); }
-  static now() { return Real.now() - 3 * 3600000; }
+  constructor(...words) { words.length ? super(...words) : super(Real.now() + HOURS * 3600000); }
+  static now() { return Real.now() + HOURS * 3600000; }
 };
 """
 
@@ -241,11 +243,13 @@ def certificates(story: Story) -> None:
 def clock(story: Story) -> None:
     """A catalogue is as old as it is by the server's clock, whatever the browser's says."""
     it = story.browser
-    with it.before_each_page(BEHIND):
-        it.open(f"{story.proxy.page}#catalogue")
-        judge("catalogue: its age is that of the server's clock", "-" not in it.seen("#catalogue-moment").split(",")[1].split("ago")[0])
-        it.open(f"{story.proxy.page}#todo")
-    judge("todo: opens with a browser's clock that is behind", it.all("#todo-tasks > article") != [])
+    for hours in (-3, 3):
+        with it.before_each_page(WRONG.replace("HOURS", str(hours))):
+            it.open(f"{story.proxy.page}#catalogue")
+            age = re.search(r", (\d+) min ago", it.seen("#catalogue-moment"))
+            judge(f"catalogue: its age is that of the server's clock, {hours} hours off", age and int(age[1]) < 60, it.seen("#catalogue-moment"))
+            it.open(f"{story.proxy.page}#todo")
+        judge(f"todo: opens with a browser's clock {hours} hours off", it.all("#todo-tasks > article") != [])
 
 
 def cards(story: Story) -> None:

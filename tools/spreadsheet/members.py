@@ -45,7 +45,7 @@ def needed_code(cell: str) -> str:
 def digest_of(cell: str) -> str:
     """A digest; capital digits, as Windows writes them, become small ones."""
     if not re.fullmatch("[0-9A-Fa-f]{64}", cell):
-        raise Wrong("digest", f"is no SHA-256: it has {len(cell)} characters, and a SHA-256 has 64, of 0 to 9 and a to f"
+        raise Wrong("digest", f"is no SHA-256: its length is {len(cell)}, and that of a SHA-256 is 64 characters, of 0 to 9 and a to f"
                     if cell else "the cell is empty")
     return cell.lower()
 

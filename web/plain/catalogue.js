@@ -21,12 +21,28 @@ function wordsOf(question) {
   return words.sort((one, other) => other.length - one.length);
 }
 
+/** Where each line of a text begins, and where the last one ends. */
+function startsOf(text) {
+  const starts = [0];
+  for (let at = text.indexOf("\n"); at !== -1; at = text.indexOf("\n", at + 1)) starts.push(at + 1);
+  return Uint32Array.from(starts);
+}
+
+/**
+ * Lines as they are searched.
+ * @param {string} lines each with its end
+ * @returns {{ text: string, starts: Uint32Array }}
+ */
+export function searchable(lines) {
+  const text = folded(lines);
+  return { text, starts: startsOf(text) };
+}
+
 /** Many rows as one long text, a line a row, so that a word is looked for in all of them at once. It is made once it is wanted. */
 export class Index {
   #textOf;
-  #text = null;
+  #made = null;
   #coming = null;
-  #starts = null;
 
   /**
    * @param {any[]} rows
@@ -42,28 +58,27 @@ export class Index {
   }
 
   /**
-   * Has the text made by a function that takes its time, as in a worker.
-   * @param {function(string): Promise<string>} fold
+   * Has it made by a function that takes its time, as in a worker.
+   * @param {function(string): Promise<{ text: string, starts: Uint32Array }>} make
    */
-  async ready(fold) {
-    if (this.#text !== null) return;
-    this.#coming ??= fold(this.#lines());
-    this.#text = await this.#coming;
+  async ready(make) {
+    if (this.#made !== null) return;
+    this.#coming ??= make(this.#lines());
+    this.#made = await this.#coming;
+  }
+
+  #its() {
+    this.#made ??= searchable(this.#lines());
+    return this.#made;
   }
 
   get text() {
-    this.#text ??= folded(this.#lines());
-    return this.#text;
+    return this.#its().text;
   }
 
   /** Where the line of each row begins. */
   get starts() {
-    if (this.#starts === null) {
-      const { text, rows } = this;
-      this.#starts = new Uint32Array(rows.length + 1);
-      for (let row = 1; row <= rows.length; row += 1) this.#starts[row] = text.indexOf("\n", this.#starts[row - 1]) + 1;
-    }
-    return this.#starts;
+    return this.#its().starts;
   }
 }
 

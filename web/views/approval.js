@@ -1,6 +1,6 @@
 // A list for approval, on paper: the office, the day, the filter, counts by action, the rows, and lines for signatures.
 import { officeName } from "../name.js";
-import { factsOf, grouped, made, paragraph } from "../page.js";
+import { factsOf, grouped, made, paragraph, plural } from "../page.js";
 import { visible } from "../plain/marks.js";
 import { today } from "../plain/forms.js";
 import { t } from "../texts.js";
@@ -41,7 +41,7 @@ export function printApproval({ title, caption, isMarked, filter, rows, names, c
     [t("approval.list"), `${title}. ${caption}`],
     [t("approval.printed"), today()],
     [t("approval.filter"), filter.length ? filter.map(([name, value]) => `${name}: ${value}`).join(", ") : t("approval.noFilter")],
-    [t("approval.rows"), t(isMarked ? "approval.marked" : "approval.shown", { count: grouped(rows.length) })],
+    [t("approval.rows"), plural(isMarked ? "approval.marked" : "approval.shown", rows.length)],
   ];
   const paper = made(
     "section",

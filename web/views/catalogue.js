@@ -1,7 +1,7 @@
 // The catalogue: records and aggregations, searched as one types; classes, schedules, holds and runs as lists.
 import { aboutIt, lastAnswer, makeReady, part, records, refresh } from "../catalogue.js";
 import { serverNow } from "../clock.js";
-import { asking, byId, failed, grouped, link, made, paragraph, quiet, say } from "../page.js";
+import { asking, byId, failed, grouped, link, made, paragraph, plural, quiet, say } from "../page.js";
 import { isDay, today } from "../plain/forms.js";
 import { NO_DUE } from "../plain/finding.js";
 import { visible } from "../plain/marks.js";
@@ -23,6 +23,7 @@ const select = (name) => byId(`catalogue-${name}`);
 /** So many milliseconds after the last key the address has what is asked: a browser slows a page down that changes it at each key. */
 const STILL = 250;
 let later = 0;
+let soon = 0;
 
 const FOUND = { records: new FoundRecords(() => tellMarks()), aggregations: new FoundAggregations(() => tellMarks()) };
 const BARS = {};
@@ -51,7 +52,7 @@ export function momentWords() {
   const { moment } = aboutIt();
   const minutes = Math.max(0, Math.round((serverNow() - Date.parse(moment)) / 60000));
   const hours = Math.round(minutes / 60);
-  const age = minutes < 120 ? t("catalogue.minutes", { count: minutes }) : t("catalogue.hours", { count: hours });
+  const age = minutes < 120 ? plural("catalogue.minutes", minutes) : t("catalogue.hours", { count: hours });
   return made("time", { datetime: moment }, t("catalogue.moment", { moment: clockOf(moment), age }));
 }
 
@@ -97,7 +98,8 @@ function tellCounts() {
   byId("catalogue-count").textContent = t("catalogue.found", { count: grouped(count), all: grouped(found.total()), shown: grouped(shown) });
   const rest = Math.min(count, shown + MOST) - shown;
   byId("catalogue-more").hidden = byId("catalogue-whole").hidden = rest === 0;
-  byId("catalogue-whole").textContent = t(shown + rest < count ? "catalogue.showSome" : "catalogue.showAll", { count: grouped(rest) });
+  const isAll = shown + rest === count;
+  byId("catalogue-whole").textContent = isAll ? plural("catalogue.showAll", rest) : t("catalogue.showSome", { count: grouped(rest) });
   byId("catalogue-mark").textContent = t("marked.allFound", { count: grouped(count) });
 }
 
@@ -232,6 +234,16 @@ async function draw() {
   if (asked.part === "records") setTimeout(warm, 20);
 }
 
+/**
+ * Looks for what is written by now. If keys came faster than the page answered, those that wait are taken first: the
+ * question of the last one alone is answered.
+ */
+function typed() {
+  clearTimeout(soon);
+  if (navigator.scheduling?.isInputPending?.()) soon = setTimeout(typed);
+  else look();
+}
+
 /** Looks for what is written and chosen by now. */
 function look() {
   asked.text = select("text").value.trim();
@@ -291,8 +303,8 @@ function beforePaper() {
 }
 
 export function start() {
-  select("text").addEventListener("input", look);
-  select("due-day").addEventListener("input", look);
+  select("text").addEventListener("input", typed);
+  select("due-day").addEventListener("input", typed);
   for (const name of ALL_FILTERS) select(name).addEventListener("change", look);
   byId("catalogue-search").addEventListener("submit", (event) => event.preventDefault());
   for (const name of Object.keys(FOUND)) {

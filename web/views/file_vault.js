@@ -1,5 +1,5 @@
 // Large files of the views File and Import: each goes into the vault of the office right before its record is filed.
-import { grouped, inBytes, made, paragraph } from "../page.js";
+import { grouped, inBytes, made, paragraph, plural } from "../page.js";
 import { MOST_CONTENT } from "../plain/filing.js";
 import { visible } from "../plain/marks.js";
 import { manifestOf, placeOfFile } from "../plain/vault.js";
@@ -33,8 +33,8 @@ export function warnings(files) {
   if (vault.state === "silent") return [paragraph(t("vault.silent"))];
   const sum = large.filter(goesIn).reduce((all, { size }) => all + size, 0);
   const over = large.filter(({ size }) => vault.state === "there" && size > vault.most).length;
-  const words = { bytes: grouped(sum), room: grouped(vault.room), most: grouped(vault.most), count: grouped(over) };
-  return [...(sum > vault.room ? [t("vault.noRoom", words)] : []), ...(over ? [t("vault.over", words)] : [])].map((it) => paragraph(it));
+  const words = { bytes: grouped(sum), room: grouped(vault.room), most: grouped(vault.most) };
+  return [...(sum > vault.room ? [t("vault.noRoom", words)] : []), ...(over ? [plural("vault.over", over, words)] : [])].map((it) => paragraph(it));
 }
 
 /** A bar for one file, and what happens to it. */

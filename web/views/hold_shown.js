@@ -86,8 +86,8 @@ async function make() {
   const rows = jsonOf(answer);
   if (answer.status !== 200 || !Array.isArray(rows)) return null;
   const { covered, due, confirmed } = liftForecast(rows, code, day);
-  const counts = { hold: code, day, covered: grouped(covered.length), due: grouped(due.length) };
-  const nodes = [...(await allWords(code)), paragraph(t("forecast.lift.covers", counts))];
+  const words = { hold: code, day, due: grouped(due.length) };
+  const nodes = [...(await allWords(code)), paragraph(plural("forecast.lift.covers", covered.length, words))];
   if (confirmed.length) {
     const words = plural("forecast.lift.confirmed", confirmed.length);
     nodes.push(paragraph(`${words} ${await sinceWords(confirmed)}`.trim(), "grave"), listOf(confirmed));

@@ -1,6 +1,6 @@
 // A list by aggregations: the rows of each together, below its ref and title, as far as the catalogue has them.
 import { records, tree } from "../catalogue.js";
-import { grouped as inWords, link, made } from "../page.js";
+import { link, made, plural } from "../page.js";
 import { grouped } from "../plain/lists.js";
 import { visible } from "../plain/marks.js";
 import { t } from "../texts.js";
@@ -10,7 +10,7 @@ const nameOf = (it) => t("forecast.close.name", { number: it.number, ref: visibl
 /** The row over those of an aggregation: what it is, how many they are, and a button that marks them. */
 function headingOf(it, rows, width, mark) {
   const name = it ? link(`#catalogue?part=records&aggregation=${it.number}`, nameOf(it)) : t("deciding.noAggregation");
-  const button = made("button", { type: "button", class: "quiet small" }, t("deciding.markGroup", { count: inWords(rows.length) }));
+  const button = made("button", { type: "button", class: "quiet small" }, plural("deciding.markGroup", rows.length));
   button.addEventListener("click", () => mark(rows));
   const cell = made("th", { scope: "rowgroup", role: "rowheader", colspan: width }, made("span", { class: "in-group" }, name, button));
   return made("tr", { role: "row", class: "group" }, cell);

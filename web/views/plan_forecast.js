@@ -96,7 +96,7 @@ function movesTable(moves) {
   const { now, then, records: count } = all().forecast.columns;
   const cells = moves.slice(0, SHOWN).map(([before, after, many]) => [before, after, grouped(many)]);
   const left = moves.length - SHOWN;
-  const more = left > 0 ? [paragraph(t("forecast.rule.more", { count: grouped(left) }), "hint")] : [];
+  const more = left > 0 ? [paragraph(plural("forecast.rule.more", left), "hint")] : [];
   return [tableOf(t("forecast.rule.moves"), [now, then, count], cells, "bydue"), ...more];
 }
 

@@ -1,7 +1,7 @@
 // What a run would do, before it is opened and before it is carried out: by class, with the list of its records.
 import { getNewest } from "../ask.js";
 import { isThere, part, refresh } from "../catalogue.js";
-import { byId, grouped, link, made, paragraph, tableOf } from "../page.js";
+import { byId, grouped, link, made, paragraph, plural, tableOf } from "../page.js";
 import { FATES, runForecast } from "../plain/forecast.js";
 import { isDay, today } from "../plain/forms.js";
 import { visible } from "../plain/marks.js";
@@ -56,7 +56,7 @@ function listOf(rows) {
     row.held === null ? "" : link(`#holds?code=${row.held}`, row.held), word(row.fate),
   ];
   const left = rows.length - MOST;
-  const more = left > 0 ? [paragraph(t("forecast.run.more", { count: grouped(left) }), "hint")] : [];
+  const more = left > 0 ? [paragraph(plural("forecast.run.more", left), "hint")] : [];
   const table = tableOf(t("forecast.run.caption", { count: grouped(rows.length) }), heads, rows.slice(0, MOST).map(cells), "taken");
   return made("details", { class: "listed" }, made("summary", {}, t("todo.list")), table, ...more);
 }
@@ -71,7 +71,11 @@ function limits(count) {
 
 /** Asks what a run would do, by the list of its day. */
 async function make() {
-  open ??= await openByCatalogue();
+  if (open === null) {
+    const found = await openByCatalogue();
+    // this page may have opened one meanwhile
+    open ??= found;
+  }
   const written = byId("run-open-day").value.trim();
   const day = open?.day ?? (isDay(written) ? written : today());
   const answer = await getNewest(`due/${day}`);
@@ -83,7 +87,8 @@ async function make() {
   const head = made("p", {}, t(key, { day, number: open?.number ?? "" }));
   const seen = JSON.stringify([open?.number ?? null, day, rows.map((row) => [row.record, row.fate])]);
   if (!rows.length) return { seen, nodes: [head, paragraph(t("run.tookNone")), limits(there.count)] };
-  const grave = totals.destroy + totals.end ? [paragraph(t("forecast.run.grave", { count: grouped(totals.destroy + totals.end) }), "grave")] : [];
+  const gone = totals.destroy + totals.end;
+  const grave = gone ? [paragraph(plural("forecast.run.grave", gone), "grave")] : [];
   return { seen, nodes: [head, totalsOf(totals), ...grave, classesTable(classes), limits(there.count), listOf(rows)] };
 }
 
