@@ -56,21 +56,20 @@ async def reply_of(link: socket.socket, seconds: float) -> Reply:
     """Takes an answer from a connection. TimeoutError says that nothing came for so long."""
     loop, head, parts, size = asyncio.get_running_loop(), b"", [b""], 0
     status, lines, length = 0, dict[str, str](), -1
-    while size != length:
+    while length < 0 or size < length:
         async with asyncio.timeout(seconds):
             data = await loop.sock_recv(link, BLOCK)
-        if not data or length < 0 and len(head) > MOST_HEAD or 0 <= length < size + len(data):
+        if not data or length < 0 and len(head) > MOST_HEAD:
             raise Lost
         if length < 0:
-            head, end, rest = (head + data).partition(b"\r\n\r\n")
+            head, end, data = (head + data).partition(b"\r\n\r\n")
             if not end:
                 continue
             status, lines, length = head_of(head)
-            data = rest
-            if len(rest) > length:
-                raise Lost
         parts.append(data)
         size += len(data)
+    if size > length:
+        raise Lost
     return Reply(status, lines, b"".join(parts))
 
 

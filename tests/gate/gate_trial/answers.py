@@ -5,6 +5,7 @@ A reading is asked again until its answer is whole. An act is sent once, and who
 import json
 import pathlib
 import socket
+import subprocess
 import threading
 import time
 
@@ -29,7 +30,8 @@ CUT = {"nothing": b"", "a head that is cut": GOOD[:40], "a head alone": GOOD.spl
        "no length": GOOD.replace(b"Content-Length", b"Content-Width"),
        "a length that is none": whole(RECORD).replace(f"Length: {len(RECORD)}".encode(), b"Length: +60"),
        "chunks": whole(RECORD, "Transfer-Encoding: chunked"), "no status": GOOD.replace(b" 200 ", b" 2x0 "),
-       "another protocol": GOOD.replace(b"HTTP/1.1", b"SPDY/1.1"), "a head without end": b"HTTP/1.1 200 OK\r\n" + b"a" * 200_000}
+       "another protocol": GOOD.replace(b"HTTP/1.1", b"SPDY/1.1"),
+       "a head without end": b"HTTP/1.1 200 OK\r\n" + b"a" * 200_000}
 
 
 class Stand:
@@ -51,7 +53,7 @@ class Stand:
                 return
             with it:
                 data = b""
-                while b"\r\n\r\n" not in data or b"POST" in data and not data.endswith((b"]", b"Content-Length: 0\r\n\r\n")):
+                while b"\r\n\r\n" not in data or b"POST" in data and not data.endswith(b"]"):
                     data += it.recv(65536)
                 self.asked.append(data)
                 answer = self.answers.pop(0) if self.answers else GOOD
@@ -69,6 +71,7 @@ class Stand:
 
 def tried(folder: pathlib.Path) -> None:
     world = World(folder, SETTINGS)
+    addresses(world)
     stand = Stand(world.port)
     world.start_gate()
     pieces(world, stand)
@@ -77,6 +80,15 @@ def tried(folder: pathlib.Path) -> None:
     judge("the chain holds", world.check().returncode == 0, world.check().stderr)
     stand.link.close()
     world.end()
+
+
+def addresses(world: World) -> None:
+    """An address of an office that is none ends the gate before it writes anything."""
+    for address in ("8081", "127.0.0.1", "127.0.0.1:", ":8081", "127.0.0.1:http"):
+        words = [address if it == f"127.0.0.1:{world.port}" else it for it in world.words()]
+        done = subprocess.run(words, capture_output=True, text=True, check=False, timeout=300)
+        judge(f"the address '{address}'", done.returncode == 2 and "HOST:PORT" in done.stderr, done.stderr)
+    judge("no journal is there", not world.journal.exists() or not world.journal.read_bytes())
 
 
 def pieces(world: World, stand: Stand) -> None:
@@ -111,13 +123,13 @@ def passed(world: World, stand: Stand) -> None:
     stand.told(whole(b'[{"done":true}]', "Office-Position: 7", "office-age:3", "X-Other: 1", "Set-Cookie: a=b"))
     given = {"Idempotency-Key": "k1", "Office-Read": "newest", "X-Mine": "1", "Cookie": "a=b"}
     raw = whole_answer(world, "POST", given, json.dumps([{**ACT, "day": "2001-01-01"}]).encode())
-    same("an act of a member", b'[{"done":true}]' in raw and b"Office-Position: 7" in raw and b"Office-Age: 3" in raw, True)
+    judge("an act of a member", all(it in raw for it in (b'[{"done":true}]', b"Office-Position: 7", b"Office-Age: 3")), raw)
     judge("no other line of it", b"X-Other" not in raw and b"Cookie" not in raw, raw)
     head = stand.asked[0].partition(b"\r\n\r\n")[0].lower()
     judge("lines that go on", b"idempotency-key: k1" in head and b"office-read: newest" in head
           and f"host: 127.0.0.1:{world.port}".encode() in head, head)
-    judge("no others go on", not any(it in head for it in (b"x-mine", b"cookie", b"office-token", b"office-name", b"origin")),
-          head)
+    others = (b"x-mine", b"cookie", b"office-token", b"office-name", b"origin")
+    judge("no others go on", not any(it in head for it in others), head)
     same("the position is in the journal", world.last("answered")["position"], "7")
 
 

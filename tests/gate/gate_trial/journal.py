@@ -18,7 +18,7 @@ sys.path.insert(0, str(JOURNAL.parent))
 from office_gate import chain  # noqa: E402
 from office_gate.errors import Refused  # noqa: E402
 
-EACH = 40
+EACH = 20
 """so many requests of each client"""
 
 
