@@ -99,7 +99,8 @@ def passed_on(world: World) -> None:
         through = world.text("records-manager", body)
         plain = world.direct("POST", "/acts", body.replace('}]', ',"by":"records-manager"}]').encode())
         same(f"record {number[:20]}", through, (plain[0], json.loads(plain[1])))
-        if len(number) < 100:
+        # of what no act has in this place the journal has the digest
+        if len(number) < 100 and number != "[1]":
             lines = world.journal.read_bytes().splitlines()
             found = any(f'"record":{number},'.encode() in it for it in lines[-2:])
             judge(f"record {number}: the journal has it as it was written", found, lines[-2:])
