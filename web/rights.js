@@ -2,7 +2,7 @@
 import { get } from "./ask.js";
 import { byId, paragraph, quiet, say } from "./page.js";
 import { jsonOf } from "./plain/outcomes.js";
-import { KINDS, forbidden } from "./plain/rights.js";
+import { KINDS, READS, forbidden, unread } from "./plain/rights.js";
 import { t } from "./texts.js";
 
 /** Whether the server said that this name may only read. A server that says nothing lets the office decide. */
@@ -20,6 +20,8 @@ export async function load() {
   byId("reason").hidden = !rights?.reasons?.length;
   const left = forbidden(rights);
   for (const kind of KINDS) document.body.classList.toggle(`no-${kind}`, left.has(kind));
+  const closed = unread(rights);
+  for (const thing of READS) document.body.classList.toggle(`unread-${thing}`, closed.has(thing));
 }
 
 /** The text that each act names as `by`, if a gate says so: then nobody writes another. */

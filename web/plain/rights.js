@@ -1,4 +1,4 @@
-// Which kinds of acts a name may not do, by what a gate answers (docs/ACCESS.md).
+// Which kinds of acts a name may not do, and what it may not read, by what a gate answers (docs/ACCESS.md).
 
 /** The kinds of acts, and `resume` for carrying out a run. */
 export const KINDS = [
@@ -15,4 +15,17 @@ export const KINDS = [
 export function forbidden(rights) {
   const may = rights?.may;
   return new Set(may === undefined ? [] : KINDS.filter((kind) => !(kind in may)));
+}
+
+/** What can be read. */
+export const READS = ["records", "contents", "lists", "certificates", "catalogue"];
+
+/**
+ * What a name may not read at all, in the same way.
+ * @param {{ reads?: Object<string, unknown> } | undefined} rights
+ * @returns {Set<string>}
+ */
+export function unread(rights) {
+  const reads = rights?.reads;
+  return new Set(reads === undefined ? [] : READS.filter((thing) => !(thing in reads)));
 }

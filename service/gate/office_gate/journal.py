@@ -7,6 +7,7 @@ import concurrent.futures
 import datetime
 import fcntl
 import os
+import threading
 from collections.abc import Callable
 from pathlib import Path
 from typing import Any
@@ -43,6 +44,8 @@ class Journal:
         self.waiting: list[Waiting] = []
         self.worker: asyncio.Task[None] | None = None
         self.thread = concurrent.futures.ThreadPoolExecutor(1, "journal")
+        # held by whoever uses the file
+        self.using = threading.Lock()
 
     # ---- the file
 
@@ -102,6 +105,10 @@ class Journal:
             entry["torn"] = chain.torn(self.rest)
         data, head = chain.linked(entry, self.head)
         data, self.lead, self.rest, self.head = self.lead + data, b"", None, head
+        if not is_durable and self.worker is None and self.using.acquire(blocking=False):
+            # nothing waits for the disk, and the system takes a line at once: this needs no thread
+            self.put(data, head)
+            return head
         done: asyncio.Future[None] = asyncio.get_running_loop().create_future()
         self.waiting.append((data, head, is_durable, done))
         if self.worker is None:
@@ -109,20 +116,41 @@ class Journal:
         await done
         return head
 
+    def put(self, data: bytes, head: Head) -> None:
+        """Gives a line to the system, for whoever has the file."""
+        try:
+            self.write(data, False)
+        except OSError as error:
+            self.fail([], error)
+            raise Answered(503, "journal") from error
+        finally:
+            self.using.release()
+        self.took(head)
+
+    def alone(self, what: Callable[..., Any], *words: object) -> Any:
+        """Does something while nobody else uses the file."""
+        with self.using:
+            return what(*words)
+
+    def took(self, head: Head) -> None:
+        """Notes up to which line all is written."""
+        self.is_well = True
+        if head.line // TOLD_EACH > self.written.line // TOLD_EACH:
+            say(f"head {head}")
+        self.written = head
+
     async def work(self) -> None:
         """Writes what waits, all of it at once, until nothing does."""
         while self.waiting:
             batch, self.waiting = self.waiting, []
             data, is_durable = b"".join(it[0] for it in batch), any(it[2] for it in batch)
             try:
-                await asyncio.get_running_loop().run_in_executor(self.thread, self.write, data, is_durable)
+                await asyncio.get_running_loop().run_in_executor(self.thread, self.alone, self.write, data,
+                                                                 is_durable)
             except Exception as error:
                 self.fail(batch, error)
                 continue
-            self.is_well = True
-            if batch[-1][1].line // TOLD_EACH > self.written.line // TOLD_EACH:
-                say(f"head {batch[-1][1]}")
-            self.written = batch[-1][1]
+            self.took(batch[-1][1])
             for _, _, _, done in batch:
                 if not done.done():
                     done.set_result(None)
@@ -153,7 +181,7 @@ class Journal:
     async def in_thread(self, what: Callable[..., Any], *words: object) -> Any:
         """Does something between two writings."""
         try:
-            return await asyncio.get_running_loop().run_in_executor(self.thread, what, *words)
+            return await asyncio.get_running_loop().run_in_executor(self.thread, self.alone, what, *words)
         except OSError as error:
             say(f"{self.path.parent}: {error.strerror}")
             raise Answered(503, "journal") from error

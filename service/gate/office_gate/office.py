@@ -5,10 +5,8 @@ import time
 from dataclasses import dataclass, field
 from typing import Any
 
-import aiohttp
-
-from office_gate.body import Json
-from office_gate.errors import Answered
+from office_gate import asking
+from office_gate.errors import Answered, Refused
 from office_gate.turns import Turns
 
 WAIT_SECONDS = 120.0
@@ -43,18 +41,11 @@ class Office:
     """An office at an address, asked in turns that are fair to each name."""
 
     def __init__(self, address: str) -> None:
-        self.address = f"http://{address}"
+        host, _, port = address.rpartition(":")
+        if not host or not (port.isascii() and port.isdigit()):
+            raise Refused(2, f"--office '{address}' is no HOST:PORT")
+        self.address, self.at = address, (host, int(port))
         self.turns = Turns(AT_ONCE)
-        self.session: aiohttp.ClientSession | None = None
-
-    async def start(self) -> None:
-        limits = aiohttp.ClientTimeout(total=None, sock_connect=10, sock_read=ANSWER_SECONDS)
-        self.session = aiohttp.ClientSession(connector=aiohttp.TCPConnector(limit=0, force_close=True), timeout=limits,
-                                             auto_decompress=False, cookie_jar=aiohttp.DummyCookieJar())
-
-    async def stop(self) -> None:
-        if self.session:
-            await self.session.close()
 
     async def get(self, name: str, path: str, lines: dict[str, str] | None = None) -> Answer:
         """Reads something. A reading is asked again if its answer was lost."""
@@ -66,36 +57,31 @@ class Office:
 
     async def asked(self, name: str, method: str, path: str, body: bytes | None, lines: dict[str, str]) -> Answer:
         ends = time.monotonic() + WAIT_SECONDS
+        sent = asking.written(method, self.address, path, body, lines)
         while True:
             async with self.turns.turn(name):
-                answer = await self.once(method, path, body, lines)
+                answer = await self.once(sent, method == "GET")
             if answer is not None and not is_closed(answer):
                 return answer
             if time.monotonic() >= ends:
                 raise Answered(503, "office")
             await asyncio.sleep(TRY_SECONDS)
 
-    async def once(self, method: str, path: str, body: bytes | None, lines: dict[str, str]) -> Answer | None:
+    async def once(self, sent: bytes, is_reading: bool) -> Answer | None:
         """Sends a request once. None says that nothing was done, or that it was a reading."""
-        assert self.session is not None
-        is_reading = method == "GET"
         try:
-            async with self.session.request(method, self.address + path, data=body, headers=lines,
-                                            skip_auto_headers=("User-Agent", "Accept-Encoding", "Content-Type"),
-                                            allow_redirects=False) as reply:
-                data = await reply.read()
-                back = {it: reply.headers[it] for it in BACK_LINES if it in reply.headers}
-                kind = reply.headers.get("Content-Type", "application/json")
-        except aiohttp.ClientConnectorError:
+            found = await asking.ask(self.at, sent, ANSWER_SECONDS)
+        except asking.Away:
             return None
-        except asyncio.TimeoutError as error:
+        except TimeoutError as error:
             if is_reading:
                 raise Answered(504, "time") from error
             return UNKNOWN
-        except (aiohttp.ClientError, OSError):
+        except asking.Lost:
             return None if is_reading else UNKNOWN
-        is_known = is_reading or not is_lost(reply.status, data)
-        return Answer(reply.status, data, kind, back, is_known)
+        back = {it: found.lines[it.lower()] for it in BACK_LINES if it.lower() in found.lines}
+        is_known = is_reading or not is_lost(found.status, found.body)
+        return Answer(found.status, found.body, found.lines.get("content-type", "application/json"), back, is_known)
 
 
 def word_of(data: bytes) -> str | None:

@@ -74,7 +74,6 @@ async def serve(gate: Gate, at: socket.socket) -> None:
     await front.shutdown(1)
     await gate.journal.append({"what": "closed"})
     say(f"head {gate.journal.head}")
-    await gate.office.stop()
     gate.journal.close()
 
 

@@ -55,5 +55,4 @@ async def begin(gate: Gate) -> None:
         await gate.journal.append({"what": "answered", "of": line, "status": 0, "known": False})
     catch_up(gate.journal.path, gate.facts, gate.journal.head)
     gate.facts.extend(gate.aggregations())
-    await gate.office.start()
     await asyncio.to_thread(gate.journal.contents.prune, gate.access.content_days)

@@ -168,10 +168,12 @@ def catalogue(world: World) -> None:
     """Files from before the gate are known by the catalogue; what was done since counts more."""
     rows = [{"number": it, "parent": None, "class": MINE} for it in range(1, 30)]
     write_catalogue(world, time.time() - 3600, rows)
-    status, said = world.act("clerk", filing(8, 20))
-    same("a file that the catalogue knows", (status, said), (409, [{"refused": 5}]))
+    # from the first act on, before anything else is done
     refused(world, "the journal knows better", filing(8, 2))
     refused(world, "and of a class that was given since", filing(8, 3))
+    status, said = world.act("clerk", filing(8, 20))
+    same("a file that the catalogue knows", (status, said), (409, [{"refused": 5}]))
+    refused(world, "it still does after an act", filing(8, 2))
 
 
 def unknown(world: World) -> None:

@@ -5,9 +5,11 @@ import resource
 import signal
 import subprocess
 import sys
+import threading
 import time
+from collections import Counter
 
-from gate_trial.base import SETTINGS, made
+from gate_trial.base import SETTINGS, filing, made
 from gate_trial.judging import judge, same
 from gate_trial.world import JOURNAL, PYTHON, World
 
@@ -15,6 +17,9 @@ sys.path.insert(0, str(JOURNAL.parent))
 
 from office_gate import chain  # noqa: E402
 from office_gate.errors import Refused  # noqa: E402
+
+EACH = 20
+"""so many requests of each client"""
 
 
 def tried(folder: pathlib.Path) -> None:
@@ -26,6 +31,7 @@ def tried(folder: pathlib.Path) -> None:
     forged(world)
     torn(world)
     rotated(world)
+    beside(world)
     alone(world)
     full(world)
     readings(world)
@@ -141,6 +147,46 @@ def rotated(world: World) -> None:
     (world.folder / "put-away").rename(oldest)
 
 
+def beside(world: World) -> None:
+    """Readings, acts, contents, rotations: all at once they leave one chain, with each of them in it."""
+    world.start_gate()
+    seen: Counter[tuple[str, int]] = Counter()
+
+    def reads(at: int) -> None:
+        for _ in range(EACH):
+            seen["read", world.ask("auditor", "GET", f"/records/{at}")[0]] += 1
+
+    def acts(at: int) -> None:
+        for it in range(EACH):
+            seen["act", world.act("legal", {"act": "place-hold", "code": f"B{at}-{it}", "reason": "r"})[0]] += 1
+
+    def files(at: int) -> None:
+        for it in range(EACH):
+            seen["file", world.act("records-manager", filing(1000 * at + it, 1, b"z" * 9000))[0]] += 1
+
+    threads = [threading.Thread(target=it, args=(at,)) for at in (1, 2) for it in (reads, reads, acts, files)]
+    for it in threads:
+        it.start()
+    turns = 0
+    while any(it.is_alive() for it in threads):
+        time.sleep(0.3)
+        turns += 1
+        world.journal.rename(world.folder / f"journal-202602{turns:04d}")
+        world.gate.send_signal(signal.SIGHUP)
+        while not world.journal.exists():
+            time.sleep(0.005)
+    for it in threads:
+        it.join()
+    same("each was answered", seen, {("read", 200): 4 * EACH, ("act", 200): 2 * EACH, ("file", 200): 2 * EACH})
+    world.stop_gate()
+    status, said = check(world.journal)
+    judge(f"the chain holds over {turns} rotations", status == 0 and "from line 1," in said and turns > 2, (turns, said))
+    lines = [json.loads(it) for place in world.folder.glob("journal-202602*") for it in place.read_bytes().splitlines()]
+    lines += whole_lines(world)
+    count = Counter(it["request"].split("/")[1] for it in lines if it["what"] in ("asked", "read"))
+    same("lines of readings and acts", (count["records"], count["acts"]), (4 * EACH, 4 * EACH))
+
+
 def alone(world: World) -> None:
     """One gate alone writes a journal."""
     world.start_gate()
@@ -169,6 +215,18 @@ def full(world: World) -> None:
     lines = whole_lines(world)
     judge("only what was done was asked for", sum(it["what"] == "asked" for it in lines) == before + 1)
     judge("a line tells what the disk did not take", any("torn" in it for it in lines))
+    # the same of a reading, whose line the disk takes in part
+    count = len(lines)
+    resource.prlimit(world.gate.pid, resource.RLIMIT_FSIZE, (world.journal.stat().st_size + 100, resource.RLIM_INFINITY))
+    same("readings while the disk is full", {world.ask("auditor", "GET", "/records/1") for _ in range(3)},
+         {(503, b'{"error":"journal"}')})
+    same("and an act", world.act("legal", {"act": "lift-hold", "hold": "NONE"}), (503, {"error": "journal"}))
+    resource.prlimit(world.gate.pid, resource.RLIMIT_FSIZE, (resource.RLIM_INFINITY, resource.RLIM_INFINITY))
+    same("with room it reads", world.ask("auditor", "GET", "/records/1")[0], 200)
+    lines = whole_lines(world)[count:]
+    same("the line of that, which tells what is before it", [(it["what"], it.get("torn", {}).get("bytes")) for it in lines],
+         [("read", 100)])
+    same("the chain holds over that", check(world.journal)[0], 0)
 
 
 def readings(world: World) -> None:

@@ -1,113 +1,69 @@
 """The page in Chromium, through nginx and the gate, by each role: what it offers, what it hides, and how it says no.
 
-PICTURES names a folder for pictures of the views.
+PICTURES names a folder for pictures of the views. ROLES and SPOKEN name roles and languages, if not all are tried.
 """
-import json
 import os
 import pathlib
 import subprocess
-import time
 
-from selenium import webdriver
-from selenium.webdriver.chrome.service import Service
 from selenium.webdriver.common.by import By
-from selenium.webdriver.remote.webelement import WebElement
 
 from gate_trial.base import SETTINGS, filing, plan
+from gate_trial.browsing import LANGUAGES, Browser, texts
+from gate_trial.deeds import Stage, Stages, all_done, all_forged, by_form
 from gate_trial.judging import judge, same
 from gate_trial.proxy import PASSWORD, Proxy
 from gate_trial.roles import MAY, READS
 from gate_trial.world import OFFICE, TOP, World, today
 
 ROLES = ("legal", "archive", "auditor", "registry", "records-manager", "department")
-LANGUAGES = {"en-US": "en", "de-DE": "de"}
-PICTURES = os.environ.get("PICTURES")
-WAIT = 300
-VIEWS = ("todo", "due", "overdue", "record?number=1", "file", "import", "plan", "run", "certificate?number=1", "holds",
-         "catalogue")
+VIEWS = ("todo", "due", "overdue", "outlook", "record", "sent", "file", "import", "plan", "run",
+         "certificate?number=1", "holds", "catalogue", "fault")
 # where the page offers an act of each kind, if the name may do it
-FORMS = {"add-schedule": ("plan", "#plan-schedule"), "add-class": ("plan", "#plan-class"),
-         "set-class-schedule": ("plan", "#plan-rule"), "add-aggregation": ("plan", "#plan-aggregation"),
-         "close-aggregation": ("plan", "#plan-close"), "set-record-schedule": ("plan", "#plan-own"),
-         "reclassify": ("plan", "#plan-reclassify"), "add-record": ("file", "#file-drop"),
-         "place-hold": ("holds", "#hold-place"), "hold-on": ("holds", "#hold-on"), "hold-off": ("holds", "#hold-off"),
-         "lift-hold": ("holds", "#hold-lift"), "open-run": ("run", "#run-open"), "resume": ("run", "#run-resume"),
-         "event": ("record?number=1", "#record-event-part")}
+FORMS = {"plan": {"add-schedule": "#plan-schedule", "add-class": "#plan-class", "set-class-schedule": "#plan-rule",
+                  "add-aggregation": "#plan-aggregation", "close-aggregation": "#plan-close",
+                  "set-record-schedule": "#plan-own", "reclassify": "#plan-reclassify"},
+         "file": {"add-record": "#file-drop"},
+         "holds": {"place-hold": "#hold-place", "hold-on": "#hold-on", "hold-off": "#hold-off",
+                   "lift-hold": "#hold-lift"},
+         "run": {"open-run": "#run-open", "resume": "#run-resume"},
+         "record": {"event": "#record-event-part", "review": "#record-review-part",
+                    "set-record-schedule": "#record-schedule-part", "reclassify": "#record-class-part"},
+         "sent": {"receipt": "#record-receipt-part"},
+         "due": {"confirm": "#due-confirm", "event": "#due-list [data-deed=event]",
+                 "review": "#due-list [data-deed=review]",
+                 "set-record-schedule": "#due-list [data-deed=schedule]", "hold-on": "#due-list [data-deed=hold]"},
+         "overdue": {"confirm": "#overdue-confirm", "event": "#overdue-list [data-deed=event]",
+                     "review": "#overdue-list [data-deed=review]",
+                     "set-record-schedule": "#overdue-list [data-deed=schedule]",
+                     "hold-on": "#overdue-list [data-deed=hold]"},
+         "catalogue": {"event": "#catalogue-panel [data-deed=event]", "review": "#catalogue-panel [data-deed=review]",
+                       "set-record-schedule": "#catalogue-panel [data-deed=schedule]",
+                       "receipt": "#catalogue-panel [data-deed=receipt]",
+                       "hold-on": "#catalogue-panel [data-deed=hold]"}}
+# what each of these views is about, without which it offers nothing
+ABOUT = {"record": "records", "sent": "records", "due": "lists", "overdue": "lists", "catalogue": "catalogue"}
 # what each role reads in the views: the thing, the view, and where the answer is
-READINGS = (("records", "record?number=1", "#record-told"), ("lists", "due", "#due-list"),
-            ("certificates", "certificate?number=1", "#certificate-told"), ("catalogue", "catalogue", "#catalogue-there"))
-# the forms stay hidden by these classes of the body
-SHOWN = "document.body.className = 'ready'; for (const it of document.querySelectorAll('details.act')) it.open = true"
-
-
-def texts(language: str) -> dict[str, dict[str, str]]:
-    return json.loads((TOP / f"web/texts/{LANGUAGES[language]}.json").read_text())["proxy"]
-
-
-class Browser:
-    """Chromium, without a window, as somebody who signed in."""
-
-    def __init__(self, proxy: Proxy, name: str, language: str) -> None:
-        self.proxy, self.name, self.language = proxy, name, language
-        options = webdriver.ChromeOptions()
-        options.binary_location = "/usr/bin/chromium"
-        for word in ("--headless=new", "--no-sandbox", "--disable-dev-shm-usage", f"--lang={language}",
-                     "--window-size=1280,1000", "--hide-scrollbars"):
-            options.add_argument(word)
-        options.set_capability("acceptInsecureCerts", True)
-        options.set_capability("goog:loggingPrefs", {"browser": "ALL"})
-        options.add_experimental_option("prefs", {"intl.accept_languages": language})
-        self.driver = webdriver.Chrome(service=Service("/usr/bin/chromedriver"), options=options)
-        self.driver.set_page_load_timeout(WAIT)
-        word = f"{name}:{PASSWORD.replace(' ', '%20')}"
-        self.driver.get(f"https://{word}@localhost:{proxy.port}/city/web/")
-
-    def one(self, css: str) -> WebElement:
-        return self.driver.find_element(By.CSS_SELECTOR, css)
-
-    def is_seen(self, css: str) -> bool:
-        return any(it.is_displayed() for it in self.driver.find_elements(By.CSS_SELECTOR, css))
-
-    def settled(self) -> None:
-        ends = time.time() + WAIT
-        while time.time() < ends:
-            if self.driver.execute_script("return document.body.classList.contains('ready') && "
-                                          "!document.querySelector('.waiting, [aria-busy]')"):
-                return
-            time.sleep(0.05)
-        raise AssertionError(f"{self.name}: the page goes on asking")
-
-    def open(self, view: str) -> None:
-        """Goes to a view, as a link does."""
-        self.settled()
-        self.driver.execute_script("location.hash = arguments[0]", view)
-        time.sleep(0.2)
-        self.settled()
-
-    def picture(self, view: str) -> None:
-        if PICTURES:
-            place = pathlib.Path(PICTURES)
-            place.mkdir(parents=True, exist_ok=True)
-            height = self.driver.execute_script("return document.documentElement.scrollHeight")
-            self.driver.set_window_size(1280, min(max(height + 150, 700), 3000))
-            self.driver.save_screenshot(str(place / f"{self.name}-{self.language}-{view.split('?')[0]}.png"))
-
-    def write(self, **fields: str) -> None:
-        for name, value in fields.items():
-            it = self.one(f"#{name.replace('_', '-')}")
-            if it.is_enabled() and it.get_attribute("readonly") is None:
-                it.clear()
-                it.send_keys(value)
-
-    def press(self, css: str) -> None:
-        self.driver.execute_script("arguments[0].scrollIntoView({block: 'center'}); arguments[0].click()", self.one(css))
-        time.sleep(0.3)
-        self.settled()
-
-    def complaints(self) -> list[str]:
-        """What the console complained of, but for answers that were a no, which the page tells."""
-        return [it["message"] for it in self.driver.get_log("browser") if it["level"] in ("SEVERE", "WARNING")
-                and "Failed to load resource" not in it["message"]]
+READINGS = (("records", "record", "#record-told"), ("lists", "due", "#due-list"), ("lists", "overdue", "#overdue-list"),
+            ("lists", "outlook", "#outlook-there"), ("certificates", "certificate?number=1", "#certificate-told"),
+            ("catalogue", "catalogue", "#catalogue-there"))
+# forms that only read
+ASKING = {"due-form", "overdue-form", "record-form", "certificate-form", "certificate-file-form", "run-form",
+          "catalogue-search"}
+# the forms and deeds whose buttons are seen, by their names
+BUTTONS = """
+return [...document.querySelectorAll("section:not([hidden]) button")].filter((it) => it.checkVisibility())
+  .map((it) => it.dataset.deed ? `deed ${it.dataset.deed}` : it.type === "submit" ? it.form?.id ?? "no form" : "")
+  .filter(Boolean)
+"""
+ACTING = {"plan-schedule": "add-schedule", "plan-class": "add-class", "plan-rule": "set-class-schedule",
+          "plan-aggregation": "add-aggregation", "plan-close": "close-aggregation", "plan-own": "set-record-schedule",
+          "plan-reclassify": "reclassify", "hold-place": "place-hold", "hold-on": "hold-on", "hold-off": "hold-off",
+          "hold-lift": "lift-hold", "run-open": "open-run", "run-resume": "resume", "record-event": "event",
+          "record-review": "review", "record-schedule": "set-record-schedule", "record-class": "reclassify",
+          "record-receipt": "receipt", "due-confirm": "confirm", "overdue-confirm": "confirm", "file-send": "add-record",
+          "deed event": "event", "deed review": "review", "deed schedule": "set-record-schedule", "deed hold": "hold-on",
+          "deed receipt": "receipt", "deed close": "close-aggregation"}
 
 
 def tried(folder: pathlib.Path) -> None:
@@ -121,9 +77,10 @@ def tried(folder: pathlib.Path) -> None:
     world.place.chmod(0o666)
     proxy.start()
     fill(world, proxy, catalogues)
-    for role in ROLES:
-        for language in LANGUAGES:
-            signed_in(world, proxy, role, language)
+    stages = Stages(proxy)
+    for role in os.environ.get("ROLES", " ".join(ROLES)).split():
+        for language in os.environ.get("SPOKEN", " ".join(LANGUAGES)).split():
+            signed_in(world, proxy, role, language, stages.stage())
     monitor(proxy)
     judge("the chain holds", world.check().returncode == 0, world.check().stderr)
     proxy.stop()
@@ -133,49 +90,89 @@ def tried(folder: pathlib.Path) -> None:
 def fill(world: World, proxy: Proxy, catalogues: pathlib.Path) -> None:
     """Records of two classes, a run and its certificate, and a catalogue of all that."""
     day = {"day": today()}
-    acts = [*plan(), *(filing(it, 1 + it % 2) for it in range(3, 8))]
+    rule = {"act": "add-schedule", "unit": "days", "count": 0, "offset": "none"}
+    more = ({**rule, "code": "REV", "trigger": "added", "action": "review"},
+            {**rule, "code": "O0", "trigger": "origin", "action": "destroy"})
+    acts = [*plan(), *more, *(filing(it, 1 + it % 2) for it in range(3, 8))]
     same("the plan", proxy.act("records-manager", [{**it, **day} for it in acts])[0], 200)
     same("a decision", proxy.act("records-manager", [{"act": "confirm", "record": 7, "action": "destroy", **day},
                                                      {"act": "open-run", **day}])[0], 200)
     same("a run", proxy.ask("records-manager", "POST", "/city/run/resume", b"")[0], 200)
     same("a hold", proxy.act("legal", [{"act": "place-hold", "code": "H", "reason": "a lawsuit", **day}])[0], 200)
-    for words in (["office-backup", world.file, world.folder / "copy.db"],
-                  ["office-catalogue", world.folder / "copy.db", catalogues]):
-        done = subprocess.run([TOP / "service" / words[0], *words[1:]], capture_output=True, text=True, check=False,
+    for command, *places in (("office-backup", world.file, world.folder / "copy.db"),
+                             ("office-catalogue", world.folder / "copy.db", catalogues)):
+        done = subprocess.run([TOP / "service" / str(command), *places], capture_output=True, text=True, check=False,
                               env={**os.environ, "OFFICE": OFFICE})
-        judge(f"{words[0]}", done.returncode == 0, done.stderr)
+        judge(f"{command}", done.returncode == 0, done.stderr)
 
 
-def signed_in(world: World, proxy: Proxy, role: str, language: str) -> None:
+def signed_in(world: World, proxy: Proxy, role: str, language: str, stage: Stage) -> None:
     it = Browser(proxy, role, language)
     try:
-        for view in VIEWS if language == "en-US" else ("record?number=1", "plan"):
-            it.open(view)
+        for view in VIEWS:
+            it.open(address(view, stage))
+            if view == "catalogue":
+                marked(it, role)
             it.picture(view)
             offered(it, role, view)
+            buttons(it, role, view)
             read(it, role, view)
+        contents(it, role, stage)
         foreign(it, role)
-        tried_all_the_same(it, role, world)
-        same(f"{role}, {language}: the console complains of nothing", it.complaints(), [])
+        if language == "en-US":
+            all_forged(it, role, stage, world)
+            it.driver.refresh()
+            all_done(it, role, stage, world, world.folder)
+        else:
+            # what may be done does not depend on the language; what is said does
+            by_form(it, role, stage, world, 1)
+        same(f"{role}, {it.language}: the console complains of nothing", it.complaints(), [])
     finally:
         it.driver.quit()
 
 
+def address(view: str, stage: Stage) -> str:
+    """A record that is here, and may be reviewed; or one that was sent to an archive."""
+    number = {"record": "review", "sent": "sent"}.get(view)
+    return f"record?number={stage.records[number]}" if number else view
+
+
 def offered(it: Browser, role: str, view: str) -> None:
     """A form is there for each kind of act that is the role's, and for no other."""
-    for kind, css in [(kind, css) for kind, (place, css) in FORMS.items() if place == view]:
-        there = kind in MAY[role] and not (kind == "event" and "records" not in READS[role])
-        same(f"{role}, {it.language}: {view} offers {kind}", it.is_seen(css), there)
-    kinds = {kind for kind, (place, _) in FORMS.items() if place == view}
-    if view in ("plan", "holds", "file") and MAY[role] and not kinds & MAY[role]:
-        told = json.loads((TOP / f"web/texts/{LANGUAGES[it.language]}.json").read_text())["page"]["notYours"]
-        same(f"{role}, {it.language}: {view} says that it is for others", it.one("#rights").text, told)
+    forms = FORMS.get(view, {})
+    # what the archive reads is what a run sent
+    has = view not in ABOUT or ABOUT[view] in READS[role] or role == "archive" and view == "sent"
+    for kind, css in forms.items():
+        same(f"{role}, {it.language}: {view} offers {kind}", it.is_seen(css), has and kind in MAY[role])
+    # the view Run is for whoever looks for a run, too
+    if view in ("plan", "holds", "file") and MAY[role] and not forms.keys() & MAY[role]:
+        same(f"{role}, {it.language}: {view} says that it is for others", it.one("#rights").text,
+             texts(it.language, "page")["notYours"])
+    elif view in ("plan", "holds", "file", "run"):
+        same(f"{role}, {it.language}: {view} says what a reader may", it.one("#rights").text,
+             "" if MAY[role] else texts(it.language, "page")["reader"])
     if view == "import":
         # a sheet may have acts of any kind
         same(f"{role}, {it.language}: {view} takes a sheet", it.is_seen("#import-drop"), bool(MAY[role]))
     if view == "plan":
-        heads = [head.text for head in it.driver.find_elements(By.CSS_SELECTOR, "#plan-forms > h2") if head.is_displayed()]
-        judge(f"{role}, {it.language}: no heading of the plan without a form", bool(heads) == bool(kinds & MAY[role]), heads)
+        found = it.driver.find_elements(By.CSS_SELECTOR, "#plan-forms > h2")
+        heads = [head.text for head in found if head.is_displayed()]
+        judge(f"{role}, {it.language}: no heading of the plan without a form",
+              bool(heads) == bool(forms.keys() & MAY[role]), heads)
+
+
+def buttons(it: Browser, role: str, view: str) -> None:
+    """No button that acts is seen but for what the role may do, and each is of a form that is known here."""
+    seen = set(it.driver.execute_script(BUTTONS)) - ASKING
+    others = {one for one in seen if ACTING.get(one) not in MAY[role]}
+    same(f"{role}, {it.language}: {view} has no other button", others, set())
+
+
+def marked(it: Browser, role: str) -> None:
+    """Marks records in the catalogue, so that it offers what can be done with them."""
+    if "catalogue" in READS[role]:
+        it.open("catalogue?part=records")
+        it.press("#catalogue-mark")
 
 
 def read(it: Browser, role: str, view: str) -> None:
@@ -188,7 +185,20 @@ def read(it: Browser, role: str, view: str) -> None:
         word = "403 class" if role == "archive" and thing == "records" else "403 right"
         same(f"{role}, {it.language}: {view} shows its {thing}", it.is_seen(css), there)
         if not there:
-            judge(f"{role}, {it.language}: {view} says why not", words[word]["meaning"] in seen, seen[:600])
+            both = all(words[word][part] in seen for part in ("meaning", "do"))
+            judge(f"{role}, {it.language}: {view} says why not", both, seen[:600])
+
+
+def contents(it: Browser, role: str, stage: Stage) -> None:
+    """The content of a record is offered to whoever may read it, and then it is read."""
+    kind = "sent" if role == "archive" else "due"
+    it.open(f"record?number={stage.records[kind]}")
+    may = "contents" in READS[role] or role == "archive"
+    same(f"{role}, {it.language}: a content is offered", it.is_seen("#record-save"), may)
+    if may:
+        it.press("#record-look")
+        place = it.one("#record-saved")
+        judge(f"{role}, {it.language}: a content is read", "done" in (place.get_attribute("class") or ""), place.text)
 
 
 def foreign(it: Browser, role: str) -> None:
@@ -200,27 +210,6 @@ def foreign(it: Browser, role: str) -> None:
         judge(f"department, {it.language}: a foreign record", words["403 class"]["meaning"] in seen
               and words["403 class"]["do"] in seen and words["403 right"]["meaning"] not in seen, seen)
         it.picture("foreign")
-
-
-def tried_all_the_same(it: Browser, role: str, world: World) -> None:
-    """Who sends a form that is not theirs is told so in words, and nothing is done."""
-    words = texts(it.language)["403 right"]
-    kind, view = ("add-class", "plan") if role == "legal" else ("place-hold", "holds")
-    it.open(view)
-    it.driver.execute_script(SHOWN)
-    if role == "legal":
-        it.write(plan_class_code="X", plan_class_title="X", plan_class_schedule="D0")
-        form = "plan-class"
-    else:
-        it.write(hold_place_code="X", hold_place_reason="r", hold_place_by=role)
-        form = "hold-place"
-    it.press(f"#{form} button:not([type])")
-    seen = it.one(f"#{form}-outcome").text
-    judge(f"{role}, {it.language}: sends {kind} all the same", words["meaning"] in seen and words["do"] in seen, seen)
-    line = world.last("refused")
-    same(f"{role}, {it.language}: the journal has it", (line["name"], line["acts"][0]["act"], line["status"]),
-         (role, kind, 403))
-    it.picture("refused")
 
 
 def monitor(proxy: Proxy) -> None:

@@ -99,7 +99,6 @@ def lost(world: World, copy: pathlib.Path, now: pathlib.Path) -> None:
     status, said = replayed(world, copy)
     judge("without the contents it says which", status == 1 and "is no longer there" in said and "SHA-256" in said,
           said)
-    (kept).rmdir()
     (world.state / "away").rename(kept)
     status, said = replayed(world, now)
     judge("a copy from after all of it needs nothing", status == 0 and said.startswith("requests: 0"), said)

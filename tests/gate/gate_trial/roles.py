@@ -1,6 +1,7 @@
 """Every kind of act and every reading, by every role."""
 import json
 import pathlib
+from typing import Any
 
 from gate_trial.base import filing, made
 from gate_trial.judging import judge, same
@@ -9,37 +10,40 @@ from gate_trial.world import World, today
 MANAGER = {"add-schedule", "add-class", "set-class-schedule", "set-record-schedule", "reclassify", "add-aggregation",
            "add-record", "close-aggregation", "event", "confirm", "review", "open-run", "run-step", "resume", "receipt",
            "vault"}
-MAY = {"registry": {"add-aggregation", "add-record", "close-aggregation", "event", "vault"},
-       "records-manager": MANAGER,
-       "legal": {"place-hold", "hold-on", "hold-off", "lift-hold"},
-       "department": {"confirm", "review", "event"},
-       "auditor": set(), "archive": {"receipt"}, "monitor": set(), "stranger": set()}
-READS = {"registry": {"records", "contents", "lists", "catalogue"},
-         "records-manager": {"records", "contents", "lists", "certificates", "catalogue"},
-         "legal": {"records", "contents", "lists", "certificates", "catalogue"},
-         "department": {"records", "contents", "lists"},
-         "auditor": {"records", "lists", "certificates", "catalogue"},
-         "archive": {"certificates"}, "monitor": {"health"}, "stranger": set()}
+MAY: dict[str, set[str]] = {
+    "registry": {"add-aggregation", "add-record", "close-aggregation", "event", "vault"},
+    "records-manager": MANAGER,
+    "legal": {"place-hold", "hold-on", "hold-off", "lift-hold"},
+    "department": {"confirm", "review", "event"},
+    "auditor": set(), "archive": {"receipt"}, "monitor": set(), "stranger": set()}
+READS: dict[str, set[str]] = {
+    "registry": {"records", "contents", "lists", "catalogue"},
+    "records-manager": {"records", "contents", "lists", "certificates", "catalogue"},
+    "legal": {"records", "contents", "lists", "certificates", "catalogue"},
+    "department": {"records", "contents", "lists"},
+    "auditor": {"records", "lists", "certificates", "catalogue"},
+    "archive": {"certificates"}, "monitor": {"health"}, "stranger": set()}
 # what the office refuses, so that nothing changes when it gets there
-ACTS = [{"act": "add-schedule", "code": "D0", "trigger": "added", "unit": "days", "count": 0, "offset": "none",
-         "action": "destroy"},
-        {"act": "add-class", "code": "BLDG1", "title": "t", "schedule": "D0"},
-        {"act": "set-class-schedule", "class": "BLDG1", "schedule": "NONE"},
-        {"act": "add-aggregation", "ref": "A", "title": "A", "class": "BLDG1"},
-        {"act": "close-aggregation", "aggregation": 99},
-        filing(1, 1, b"other"),
-        {"act": "set-record-schedule", "record": 1, "schedule": "NONE"},
-        {"act": "reclassify", "target": "record:1", "class": "NONE"},
-        {"act": "place-hold", "code": "H", "reason": "r"},
-        {"act": "hold-on", "hold": "H", "target": "record:99"},
-        {"act": "hold-off", "hold": "H", "target": "record:99"},
-        {"act": "lift-hold", "hold": "NONE"},
-        {"act": "confirm", "record": 1, "action": "transfer"},
-        {"act": "review", "record": 1},
-        {"act": "open-run", "day": "2001-01-01"},
-        {"act": "run-step"},
-        {"act": "receipt", "record": 1, "digest": "0" * 64},
-        {"act": "event", "record": 1, "occurred": today(1)}]
+ACTS: list[dict[str, Any]] = [
+    {"act": "add-schedule", "code": "D0", "trigger": "added", "unit": "days", "count": 0, "offset": "none",
+     "action": "destroy"},
+    {"act": "add-class", "code": "BLDG1", "title": "t", "schedule": "D0"},
+    {"act": "set-class-schedule", "class": "BLDG1", "schedule": "NONE"},
+    {"act": "add-aggregation", "ref": "A", "title": "A", "class": "BLDG1"},
+    {"act": "close-aggregation", "aggregation": 99},
+    filing(1, 1, b"other"),
+    {"act": "set-record-schedule", "record": 1, "schedule": "NONE"},
+    {"act": "reclassify", "target": "record:1", "class": "NONE"},
+    {"act": "place-hold", "code": "H", "reason": "r"},
+    {"act": "hold-on", "hold": "H", "target": "record:99"},
+    {"act": "hold-off", "hold": "H", "target": "record:99"},
+    {"act": "lift-hold", "hold": "NONE"},
+    {"act": "confirm", "record": 1, "action": "transfer"},
+    {"act": "review", "record": 1},
+    {"act": "open-run", "day": "2001-01-01"},
+    {"act": "run-step"},
+    {"act": "receipt", "record": 1, "digest": "0" * 64},
+    {"act": "event", "record": 1, "occurred": today(1)}]
 PATHS = {"records": ["/records/1"], "contents": ["/records/1/content"], "certificates": ["/certificates/1"],
          "lists": [f"/due/{today()}", f"/overdue/{today()}/30"], "health": ["/alive", "/metrics"]}
 FILES = {"contents": ["/records/1/files", "/records/1/files/1"], "catalogue": ["/catalogue/records.json"]}

@@ -11,7 +11,7 @@ from gate_trial.judging import judge
 from gate_trial.proxy import PASSWORD, Proxy
 from gate_trial.world import World, today
 
-COUNT = 200
+COUNT = 300
 CLIENTS = (1, 4)
 RATE = re.compile(r"Requests per second:\s+([\d.]+)")
 MEDIAN = re.compile(r"\n\s+50%\s+(\d+)\n")

@@ -94,11 +94,16 @@ def signed(world: World) -> None:
 
 def passed_on(world: World) -> None:
     """What goes on is what the journal has: numbers and members as they were written, for the office to judge."""
-    for number in ("1.0", "1e0", "-1", "0", "4294967296", "9" * 5000, '"1"', "true", "null", "[1]"):
+    for number in ("1.0", "1.50", "1e0", "1E2", "-0", "-1", "0", "4294967296", "9" * 5000, '"1"', "true", "null", "[1]"):
         body = f'[{{"act":"confirm","day":"{DAY}","record":{number},"action":"destroy"}}]'
         through = world.text("records-manager", body)
         plain = world.direct("POST", "/acts", body.replace('}]', ',"by":"records-manager"}]').encode())
         same(f"record {number[:20]}", through, (plain[0], json.loads(plain[1])))
+        # of what no act has in this place the journal has the digest
+        if len(number) < 100 and number != "[1]":
+            lines = world.journal.read_bytes().splitlines()
+            found = any(f'"record":{number},'.encode() in it for it in lines[-2:])
+            judge(f"record {number}: the journal has it as it was written", found, lines[-2:])
     for act in ({"act": "lift-hold", "hold": "NONE", "strange": 1}, {"act": "lift-hold", "hold": None},
                 {"act": "place-hold", "code": "X", "reason": "r" * 201},
                 {"act": "place-hold", "code": "X", "reason": {}},
@@ -126,4 +131,6 @@ def contents(world: World) -> None:
     noted = [it for line in world.lines() for it in line.get("acts", []) if it.get("ref") == "r3"]
     same("its length is", noted[0]["content"]["bytes"], len(secret))
     for path in world.state.rglob("*"):
-        judge(f"{path.name} is for its owner alone", path.stat().st_mode & 0o027 == 0, oct(path.stat().st_mode))
+        # the group reads counts and numbers at most
+        others = 0o077 if "contents" in path.parts else 0o027
+        judge(f"{path.name} is for its owner alone", path.stat().st_mode & others == 0, oct(path.stat().st_mode))
