@@ -1,18 +1,16 @@
 """One request to the office: a connection, what is sent, and the one answer that comes back whole.
 
-The office is on this machine, and closes each connection after its answer. A client for all of HTTP costs more of a
-processor than all else that the gate does for a reading.
+The office is on this machine, and closes each connection after its answer. h11 writes the request and reads the answer.
+The client of aiohttp costs more of a processor than all else that the gate does for a reading.
 """
 import asyncio
-import re
 import socket
 from dataclasses import dataclass
 
+import h11
+
 BLOCK = 1 << 20
 CONNECT_SECONDS = 10.0
-MOST_HEAD = 65_536
-STATUS = re.compile(r"HTTP/1\.[01] ([1-5][0-9][0-9])(?: [^\r\n]*)?")
-LENGTH = re.compile("[0-9]{1,15}")
 
 
 class Away(Exception):
@@ -32,65 +30,69 @@ class Reply:
     body: bytes
 
 
-def written(method: str, address: str, path: str, body: bytes | None, lines: dict[str, str]) -> bytes:
-    """Writes a request."""
+@dataclass(frozen=True)
+class Request:
+    """What is sent."""
+
+    head: h11.Request
+    body: bytes
+
+    def written(self, link: h11.Connection) -> bytes:
+        parts = (link.send(self.head), link.send(h11.Data(self.body)), link.send(h11.EndOfMessage()))
+        return b"".join(it or b"" for it in parts)
+
+
+def request(method: str, address: str, path: str, body: bytes | None, lines: dict[str, str]) -> Request:
+    """Makes a request."""
     sent = {"Host": address, **lines, "Connection": "close"}
     if method == "POST":
         sent["Content-Length"] = str(len(body or b""))
-    head = "".join(f"{name}: {value}\r\n" for name, value in sent.items())
-    return f"{method} {path} HTTP/1.1\r\n{head}\r\n".encode() + (body or b"")
+    return Request(h11.Request(method=method, target=path, headers=list(sent.items())), body or b"")
 
 
-def head_of(data: bytes) -> tuple[int, dict[str, str], int]:
-    """Reads the head of an answer: its status, its lines, and how long its body is."""
-    first, *rest = data.decode("utf-8", "replace").split("\r\n")
-    found = STATUS.fullmatch(first)
-    lines = {name.lower(): value.strip(" \t") for name, _, value in (it.partition(":") for it in rest)}
-    length = lines.get("content-length", "")
-    if found is None or not LENGTH.fullmatch(length) or "transfer-encoding" in lines:
-        raise Lost
-    return int(found[1]), lines, int(length)
+def is_framed(lines: dict[str, str]) -> bool:
+    """Tells whether an answer says where it ends: one that lasts until the connection closes may be cut."""
+    return "content-length" in lines or "transfer-encoding" in lines
 
 
-async def reply_of(link: socket.socket, seconds: float) -> Reply:
+async def reply_of(taken: socket.socket, link: h11.Connection, seconds: float) -> Reply:
     """Takes an answer from a connection. TimeoutError says that nothing came for so long."""
-    loop, head, parts, size = asyncio.get_running_loop(), b"", [b""], 0
-    status, lines, length = 0, dict[str, str](), -1
-    while length < 0 or size < length:
-        async with asyncio.timeout(seconds):
-            data = await loop.sock_recv(link, BLOCK)
-        if not data or length < 0 and len(head) > MOST_HEAD:
-            raise Lost
-        if length < 0:
-            head, end, data = (head + data).partition(b"\r\n\r\n")
-            if not end:
-                continue
-            status, lines, length = head_of(head)
-        parts.append(data)
-        size += len(data)
-    if size > length:
-        raise Lost
-    return Reply(status, lines, b"".join(parts))
+    loop, status, lines, parts = asyncio.get_running_loop(), 0, dict[str, str](), list[bytes]()
+    while True:
+        event = link.next_event()
+        if event is h11.NEED_DATA:
+            async with asyncio.timeout(seconds):
+                link.receive_data(await loop.sock_recv(taken, BLOCK))
+        elif isinstance(event, h11.Response):
+            status, lines = event.status_code, {name.decode(): value.decode() for name, value in event.headers}
+            if not is_framed(lines):
+                raise Lost
+        elif isinstance(event, h11.Data):
+            parts.append(bytes(event.data))
+        elif isinstance(event, h11.EndOfMessage):
+            if link.trailing_data[0]:
+                raise Lost
+            return Reply(status, lines, b"".join(parts))
 
 
-async def ask(at: tuple[str, int], sent: bytes, seconds: float) -> Reply:
+async def ask(at: tuple[str, int], sent: Request, seconds: float) -> Reply:
     """Sends a request, and returns the answer."""
-    loop = asyncio.get_running_loop()
+    loop, link = asyncio.get_running_loop(), h11.Connection(h11.CLIENT)
     try:
-        link = socket.socket(socket.AF_INET, socket.SOCK_STREAM | socket.SOCK_NONBLOCK | socket.SOCK_CLOEXEC)
+        taken = socket.socket(socket.AF_INET, socket.SOCK_STREAM | socket.SOCK_NONBLOCK | socket.SOCK_CLOEXEC)
     except OSError as error:
         raise Away from error
-    with link:
+    with taken:
         try:
             async with asyncio.timeout(CONNECT_SECONDS):
-                await loop.sock_connect(link, at)
+                await loop.sock_connect(taken, at)
         except (OSError, TimeoutError) as error:
             raise Away from error
         try:
             async with asyncio.timeout(seconds):
-                await loop.sock_sendall(link, sent)
-            return await reply_of(link, seconds)
+                await loop.sock_sendall(taken, sent.written(link))
+            return await reply_of(taken, link, seconds)
         except TimeoutError:
             raise
-        except OSError as error:
+        except (OSError, UnicodeError, h11.RemoteProtocolError) as error:
             raise Lost from error

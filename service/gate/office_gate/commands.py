@@ -14,7 +14,7 @@ def serve(it: argparse.Namespace) -> int:
     try:
         from office_gate import running, starting
     except ModuleNotFoundError as error:
-        raise Refused(2, f"there is no {error.name}: apt-get install python3-aiohttp") from error
+        raise Refused(2, f"there is no {error.name}: apt-get install python3-aiohttp python3-h11") from error
     places = starting.Places(it.settings, it.journal, it.state, it.token, it.catalogue, it.socket)
     running.run(places, it.office)
     return 0

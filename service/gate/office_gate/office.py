@@ -57,7 +57,7 @@ class Office:
 
     async def asked(self, name: str, method: str, path: str, body: bytes | None, lines: dict[str, str]) -> Answer:
         ends = time.monotonic() + WAIT_SECONDS
-        sent = asking.written(method, self.address, path, body, lines)
+        sent = asking.request(method, self.address, path, body, lines)
         while True:
             async with self.turns.turn(name):
                 answer = await self.once(sent, method == "GET")
@@ -67,7 +67,7 @@ class Office:
                 raise Answered(503, "office")
             await asyncio.sleep(TRY_SECONDS)
 
-    async def once(self, sent: bytes, is_reading: bool) -> Answer | None:
+    async def once(self, sent: asking.Request, is_reading: bool) -> Answer | None:
         """Sends a request once. None says that nothing was done, or that it was a reading."""
         try:
             found = await asking.ask(self.at, sent, ANSWER_SECONDS)

@@ -10,7 +10,7 @@ from gate_trial.judging import judge
 from gate_trial.world import OFFICE, TOP
 
 INCLUDED = ("adduser,apache2-utils,curl,e2fsprogs,libnginx-mod-http-js,logrotate,nftables,nginx-light,openssl,procps,"
-            "python3,python3-aiohttp,sqlite3,systemd")
+            "python3,python3-aiohttp,python3-h11,sqlite3,systemd")
 SOURCES = "/root/office"
 PARTS = ("service", "web")
 
