@@ -21,9 +21,10 @@ from replica.appending import Appender
 from replica.blocked import Blocked
 from replica.comparison import Comparison
 from replica.doing import REFUSED, Doing
+from replica.entries import NO_ACTS, Entry
 from replica.errors import Fault, Halt, NotTaken, Unclear, say
 from replica.joining import groups
-from replica.log import NO_ACTS, Entry, Log
+from replica.log import Log
 from replica.memo import Memo
 from replica.office import Office, has_content, work_file
 from replica.regular import Regular
@@ -68,7 +69,7 @@ class Follower:
         self.restores = self.done = 0
         self.doing = Doing(office, log.program, lambda it: None if self.memo is None else self.memo.answer_at(it))
         self.pause = 0.2
-        self.looked = 0.0
+        self.looked = self.read_again = 0.0
 
     # ---- from the start to the end
 
@@ -131,6 +132,7 @@ class Follower:
             self.snapshots.restore()
             memo = Memo(self.snapshots.work / "memo.db")
         self.memo, self.position, self.reported = memo, memo.position, None
+        self.read_again = 0.0
         self.start_office(memo)
         say(f"opened at {self.position} {'as it was' if was_settled else 'from a snapshot'}")
         return memo
@@ -238,13 +240,17 @@ class Follower:
 
         Fault where they are not there any more.
         """
-        own = self.appender.after(self.position)
-        if own:
-            return own
+        arrived = self.appender.arrived
+        entries = arrived.after(self.position)
+        if entries or not arrived.lacks_some() and time.monotonic() < self.read_again:
+            return entries
+        arrived.has_missed = False
         try:
             entries, tail = self.log.after(self.position)
         except (NotTaken, Unclear):
+            arrived.has_missed = True
             return []
+        self.read_again = 0.0 if entries else time.monotonic() + LOOK_SECONDS
         if entries[0].position != self.position + 1 if entries else tail > self.position:
             raise Fault(f"the log does not have {self.position + 1} any more: copy a snapshot of "
                         f"another member into {self.snapshots.folder}")

@@ -17,32 +17,21 @@ What is dropped is compacted too, so that etcd gives no earlier revision of it e
 """
 from __future__ import annotations
 
+import base64
 import hashlib
-import json
 import pathlib
 import socket
 import threading
 from typing import NamedTuple, Sequence
 
+from replica.arrived import Arrived
+from replica.entries import Entry, entry_at
 from replica.errors import Halt, NotTaken, Unclear, say
 from replica.etcd import Etcd, Part, Row, absent, drop, get, has, put
 from replica.settings import Settings
 
 READ_AT_ONCE = 32
-NO_ACTS = b"[]"
 MACHINE_ID = pathlib.Path("/etc/machine-id")
-
-
-class Entry(NamedTuple):
-    """A request at its place in the log."""
-
-    position: int
-    key: str
-    kind: str
-    """`acts` or `resume`; `refuse` has the position of an entry that nobody does, as its body"""
-    program: str
-    """the digest of the office's program at the member that appended it"""
-    body: bytes
 
 
 class Request(NamedTuple):
@@ -66,16 +55,6 @@ class End(NamedTuple):
     is_sure: bool
     epoch: str
     tail: int
-
-
-def entry_at(key: str, value: bytes) -> Entry:
-    """The entry that a key of etcd has. Halt where it is none."""
-    head, _, body = value.partition(b"\n")
-    try:
-        told = json.loads(head)
-        return Entry(int(key[-16:]), told["key"], told["kind"], told["program"], body)
-    except (ValueError, KeyError, TypeError) as error:
-        raise Halt(f"{key} is no entry: {error!r}") from error
 
 
 def machine_of(folder: pathlib.Path) -> str:
@@ -190,9 +169,23 @@ class Log:
             self.refused.add(position)
         return bool(rows[0])
 
-    def watch(self, changed: threading.Event) -> None:
-        """Sets the event whenever there may be a new entry. Never returns."""
-        self.etcd.watch(self.top + "tail", changed)
+    def watch(self, arrived: Arrived, changed: threading.Event) -> None:
+        """Tells of new entries as this machine's etcd has them, and of those that are refused. Never returns."""
+        def told(rows: list[tuple[str, str]]) -> None:
+            entries = []
+            for key, value in rows:
+                kind = key[len(self.top):-16]
+                if kind == "refused/":
+                    self.refused.add(int(key[-16:]))
+                elif kind == "log/" and arrived.is_new(int(key[-16:])):
+                    entries.append(entry_at(key, base64.b64decode(value)))
+            arrived.add(entries)
+            if not rows:
+                arrived.has_missed = True
+            if entries or not rows:
+                changed.set()
+
+        self.etcd.watch(self.top + "log/", self.top + "refused0", told)
 
     def look_for_room(self) -> None:
         """Takes no entry while three quarters of etcd are in use.

@@ -8,7 +8,7 @@ from __future__ import annotations
 import time
 import zlib
 
-from replica.log import NO_ACTS, Entry
+from replica.entries import NO_ACTS, Entry
 from replica.snapshots import KEPT
 
 ASK_SECONDS = 60
