@@ -30,6 +30,7 @@ from replica.office import Office, has_content, work_file
 from replica.regular import Regular
 from replica.settings import Settings
 from replica.snapshots import Snapshots
+from replica.waits import Waits
 
 IDLE_SECONDS = 1
 """without entries, until the disk is told that FILE is settled"""
@@ -52,8 +53,8 @@ class Follower:
         appender.position, appender.tell = lambda: self.position, self.appended
         self.office, self.snapshots = office, snapshots
         self.memo: Memo | None = None
-        self.moved = threading.Condition()
-        """notified whenever one of the next three changes"""
+        self.moved = Waits()
+        """woken whenever one of the next three changes"""
         self.is_answering = False
         self.is_before = False
         """it answers readings alone, of the state before an entry that it cannot do"""
@@ -291,10 +292,10 @@ class Follower:
     def move(self) -> None:
         """Clients may have the answers up to the memo's position now."""
         assert self.memo is not None
-        with self.moved:
+        with self.moved.lock:
             self.position = self.memo.position
             self.highest = max(self.highest, self.position)
-            self.moved.notify_all()
+            self.moved.wake()
 
     # ---- snapshots and reports
 
@@ -375,25 +376,23 @@ class Follower:
         self.set_before(is_before and not is_split)
 
     def set_answering(self, is_answering: bool) -> None:
-        with self.moved:
+        with self.moved.lock:
             if self.is_answering != is_answering:
                 self.is_answering = is_answering
                 say(f"{'answers from' if is_answering else 'stops answering at'} {self.position}")
-            self.moved.notify_all()
+            self.moved.wake()
 
     def set_before(self, is_before: bool) -> None:
-        with self.moved:
+        with self.moved.lock:
             if self.is_before != is_before:
                 self.is_before = is_before
                 say(f"{'reads the state at' if is_before else 'no longer reads at'} {self.position}")
-            self.moved.notify_all()
+            self.moved.wake()
 
     def reaches(self, position: int, seconds: float, reading: bool = False) -> bool:
         """Waits until this member answers, or at least readings, and has done the entry at a position."""
-        with self.moved:
-            return self.moved.wait_for(
-                lambda: (self.is_reading if reading else self.is_answering)
-                and self.position >= position, seconds)
+        return self.moved.until(
+            lambda: self.position >= position and (self.is_reading if reading else self.is_answering), seconds)
 
     def answer(self, position: int, key: str) -> bytes | None:
         """What the entry was answered here, if that is remembered."""

@@ -143,8 +143,8 @@ class Cluster:
                  "--initial-advertise-peer-urls", self.peer_address(machine),
                  "--initial-cluster", peers, "--initial-cluster-token", self.folder.name,
                  "--auto-compaction-mode", "periodic", "--auto-compaction-retention", "24h",
-                 "--quota-backend-bytes", str(self.quota), "--log-level", "warn",
-                 "--logger", "zap"]
+                 "--quota-backend-bytes", str(self.quota), "--backend-batch-interval", "1s",
+                 "--log-level", "warn", "--logger", "zap"]
         for prefix in ("", "peer-") if self.tls else ():
             words += [f"--{prefix}cert-file", f"{self.tls}/m{machine}.crt",
                       f"--{prefix}key-file", f"{self.tls}/m{machine}.key",
