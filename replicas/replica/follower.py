@@ -36,6 +36,8 @@ IDLE_SECONDS = 1
 """without entries, until the disk is told that FILE is settled"""
 LOOK_SECONDS = 0.5
 """between two looks at the log where nothing wakes this thread"""
+NEWEST = 200
+"""answers that are kept at hand, so that few are looked for in the memo"""
 ROOM_SECONDS = 5
 """between two looks at how full etcd is"""
 SNAPSHOT_BYTES = 256 * 1024**2
@@ -68,6 +70,8 @@ class Follower:
         self.blocked, self.regular = Blocked(settings.folder), Regular(settings.snapshot_seconds, settings.name)
         self.is_claimed = self.is_untold = False
         self.restores = self.done = 0
+        self.newest: dict[int, tuple[str, bytes]] = {}
+        """keys and answers of the entries that were done last"""
         self.doing = Doing(office, log.program, lambda it: None if self.memo is None else self.memo.answer_at(it))
         self.pause = 0.2
         self.looked = self.read_again = 0.0
@@ -283,7 +287,11 @@ class Follower:
         for entry, answer in zip(group, answers):
             chain = hashlib.sha256(chain.encode() + answer).hexdigest()
             comparison.note(entry.position, chain)
-        memo.advance([(it.position, it.key, answer) for it, answer in zip(group, answers)], chain)
+        rows = [(it.position, it.key, answer) for it, answer in zip(group, answers)]
+        memo.advance(rows, chain)
+        if len(self.newest) > NEWEST:
+            self.newest = {}
+        self.newest.update((position, (key, answer)) for position, key, answer in rows)
         self.done += len(group)
         for entry in group:
             self.blocked.done(entry.position)
@@ -396,7 +404,9 @@ class Follower:
 
     def answer(self, position: int, key: str) -> bytes | None:
         """What the entry was answered here, if that is remembered."""
-        memo = self.memo
+        newest, memo = self.newest.get(position), self.memo
+        if newest is not None and newest[0] == key:
+            return newest[1]
         try:
             return None if memo is None else memo.answer(position, key)
         except sqlite3.Error:
