@@ -186,9 +186,9 @@ class Follower:
                 self.do(memo, group, comparison)
                 last, size = time.monotonic(), size + sum(len(it.body) for it in group)
                 is_due = is_due or size > SNAPSHOT_BYTES or any(self.is_snapshot_at(it.position) for it in group)
-                if is_due and self.is_answering or self.stopping.is_set():
+                if is_due and self.may_pause(size) or self.stopping.is_set():
                     break
-            if self.is_snapshot_now(is_due):
+            if self.is_snapshot_now(is_due, size):
                 size, is_due = 0, False
                 self.snapshots.take(self.position, self.at_rest(memo))
             self.report(memo, comparison)
@@ -310,10 +310,15 @@ class Follower:
     def is_snapshot_at(self, position: int) -> bool:
         return (position - self.settings.snapshot_at) % self.settings.snapshot_every == 0
 
-    def is_snapshot_now(self, is_due: bool) -> bool:
-        """Whether one begins now: by the entries, by SIGHUP or by the time. A member that recovers
-        answers first, and one that makes a snapshot begins no other."""
-        if not self.is_answering or self.snapshots.is_under_way():
+    def may_pause(self, size: int) -> bool:
+        """Whether a snapshot may begin now. A member that recovers answers first; one that makes a snapshot begins no
+        other, nor soon after the last one, unless somebody asks for it or many bytes came since."""
+        is_soon = self.regular.is_soon(self.settings.snapshot_pause) and size <= SNAPSHOT_BYTES
+        return self.is_answering and not self.snapshots.is_under_way() and (self.wants_snapshot or not is_soon)
+
+    def is_snapshot_now(self, is_due: bool, size: int) -> bool:
+        """Whether one begins now: by the entries, by SIGHUP or by the time."""
+        if not self.may_pause(size):
             return False
         if not is_due and not self.wants_snapshot:
             if not self.regular.is_due():

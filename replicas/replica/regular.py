@@ -32,6 +32,10 @@ class Regular:
     def taken(self) -> None:
         self.owed, self.last = max(0, self.owed - 1), time.monotonic()
 
+    def is_soon(self, seconds: int) -> bool:
+        """Whether so few seconds have gone by since the last one, or since the start."""
+        return time.monotonic() - self.last < seconds
+
     def may_ask(self) -> bool:
         """Says so once a minute: what it asks for may fail while there is no majority."""
         if self.asked and time.monotonic() - self.asked < ASK_SECONDS:

@@ -162,7 +162,7 @@ class Cluster:
                 "office_port": self.port(machine, "office"),
                 "listen": self.port(machine, "listen"),
                 "etcd": f"127.0.0.1:{self.port(uses, 'client')}",
-                "snapshot_every": 150, "snapshot_at": 50 * machine, "compare_every": 20}
+                "snapshot_every": 150, "snapshot_pause": 0, "snapshot_at": 50 * machine, "compare_every": 20}
         if self.tls:
             told.update(ca=f"{self.tls}/ca.crt", certificate=f"{self.tls}/m{uses}.crt",
                         key=f"{self.tls}/m{uses}.key")
