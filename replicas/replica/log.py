@@ -73,6 +73,7 @@ class Log:
         self.top = f"/office/{settings.log}/"
         self.quota = settings.etcd_quota
         self.last, self.is_full = 0, False
+        """where the log ends, as far as this member knows"""
         self.refused: set[int] = set()
         """positions of entries that are known to be refused"""
         self.machine, self.dropped = machine_of(settings.folder), 0
@@ -91,29 +92,37 @@ class Log:
     def try_append(self, requests: Sequence[Request]) -> tuple[int | None, dict[str, tuple[int, str]]]:
         """One transaction: the requests have the next positions, and this gives the first of them.
 
-        Otherwise none of them is there now by this call, and it gives the positions and digests of those whose keys
-        are in the log. One thread of a member appends at a time, and no key is there twice.
+        Otherwise none of them is there now by this call. If the log ends where this member thought, it gives the
+        positions and digests of those whose keys are in it; else it knows the end now. One thread of a member appends
+        at a time, and no key is there twice.
         """
-        first, tail = self.last + 1, self.top + "tail"
+        before, tail = self.last, self.top + "tail"
         keys = [self.top + "keys/" + it.key for it in requests]
-        last = self.last + len(requests)
+        last = before + len(requests)
         puts = [put(tail, str(last))]
-        for position, (it, key) in enumerate(zip(requests, keys), first):
+        for position, (it, key) in enumerate(zip(requests, keys), before + 1):
             puts += [put(self.entry_key(position), it.value), put(key, f"{position} {it.digest}")]
-        done, rows = self.etcd.transact([has(tail, str(self.last)), *map(absent, keys)], puts,
-                                        [get(tail), *map(get, keys)])
+        done, rows = self.etcd.transact([has(tail, str(before)), *map(absent, keys)], puts, [get(tail)])
         if done:
-            self.last = last
-            return first, {}
+            self.last = max(self.last, last)
+            return before + 1, {}
         if not rows[0]:
             raise NotTaken(f"there is no log {self.top} in etcd")
         self.last = int(rows[0][0][1])
+        return None, self.found_keys(requests) if self.last == before else {}
+
+    def found_keys(self, requests: Sequence[Request]) -> dict[str, tuple[int, str]]:
+        """The positions and digests of the requests whose keys are in the log. NotTaken: no majority tells."""
+        try:
+            _, rows = self.etcd.transact([], [get(self.top + "keys/" + it.key) for it in requests])
+        except Unclear as error:
+            raise NotTaken(str(error)) from error
         found = {}
-        for it, row in zip(requests, rows[1:]):
+        for it, row in zip(requests, rows):
             if row:
                 position_text, digest = row[0][1].decode().split()
                 found[it.key] = int(position_text), digest
-        return None, found
+        return found
 
     def tail(self) -> int:
         """The last position at this moment, through the quorum."""
@@ -177,8 +186,10 @@ class Log:
                 kind = key[len(self.top):-16]
                 if kind == "refused/":
                     self.refused.add(int(key[-16:]))
-                elif kind == "log/" and arrived.is_new(int(key[-16:])):
-                    entries.append(entry_at(key, base64.b64decode(value)))
+                elif kind == "log/":
+                    self.last = max(self.last, int(key[-16:]))
+                    if arrived.is_new(int(key[-16:])):
+                        entries.append(entry_at(key, base64.b64decode(value)))
             arrived.add(entries)
             if not rows:
                 arrived.has_missed = True
