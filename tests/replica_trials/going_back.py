@@ -17,7 +17,11 @@ from replica_trials.verdict import same_rows
 
 SETTLED_SECONDS = 2.5
 """without entries: then FILE is settled"""
+ASKED_SECONDS = 15
+"""until a member has surely asked its etcd in vain for a majority, and then for what it has itself"""
 LONG, KILLS = 400, 5
+MANY = 12
+"""entries of almost a megabyte: more than the connections to an etcd that stands still hold for it"""
 
 
 def change_file(cluster: Cluster, machine: int) -> None:
@@ -94,7 +98,7 @@ def judge_seen(what: str, seen: list[Reply], least: int, some: bool = True) -> N
 def never_back(cluster: Cluster) -> None:
     """A member does its log anew: no reading is of a state before what the log had as it was started, and none before
     what it has answered itself, though its etcd has less for a while. Nobody limits the age here."""
-    cluster.settings.update(age_limit=0, snapshot_every=10**6)
+    cluster.settings.update(age_limit=0, snapshot_every=10**6, snapshot_at=0)
     begun(cluster)
     for number in range(80):
         posted(cluster, number % 2, [record(100 * number + it) for it in range(40)])
@@ -116,8 +120,8 @@ def shorter_etcd(cluster: Cluster) -> None:
     time.sleep(SETTLED_SECONDS)
     shorter = cluster.position(2)
     cluster.signal("etcd1", signal.SIGSTOP)
-    for number in range(20):
-        posted(cluster, 2, [record(20_000 + number)])
+    for number in range(MANY):
+        posted(cluster, 2, [record(20_000 + number, random.Random(number).randbytes(700_000))])
     least, restores = cluster.position(2), cluster.journal("member2").count("from a snapshot")
     door.behind = cluster.port(1, "client")
     cluster.kill("etcd0", "etcd2")
@@ -128,11 +132,12 @@ def shorter_etcd(cluster: Cluster) -> None:
     began = time.monotonic()
     while cluster.journal("member2").count("from a snapshot") == restores and time.monotonic() - began < 120:
         time.sleep(0.1)
-    while cluster.position(2) < shorter and time.monotonic() - began < 240:
+    there = int(cluster.etcdctl(1, "get", "--consistency=s", "--print-value-only", "/office/city/tail").stdout)
+    while cluster.position(2) < there and time.monotonic() - began < 240:
         time.sleep(0.1)
-    time.sleep(5)
-    judge("never back: a member whose etcd has less has done what that has", shorter <= cluster.position(2) < least,
-          cluster.state(2))
+    time.sleep(ASKED_SECONDS)
+    judge("never back: a member whose etcd has less has done what that has",
+          shorter <= there == cluster.position(2) < least, (shorter, there, least, cluster.state(2)))
     judge_seen("nor does such a member show what it was before", watcher.stop(), least, False)
     door.behind = cluster.port(2, "client")
     for machine in (0, 2):
