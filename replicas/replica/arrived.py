@@ -1,6 +1,6 @@
 """Entries that have come to a member without its asking: its own ones, and those that its etcd tells of.
 
-Each is in the log, on a majority. So the follower need not read it.
+Each is in the log, on a majority, so it need not be read.
 """
 from __future__ import annotations
 
@@ -29,7 +29,9 @@ class Arrived:
     def add(self, entries: Sequence[Entry]) -> None:
         with self.lock:
             for it in entries:
-                if self.is_new(it.position) and len(self.entries) < MOST and self.size < LONGEST:
+                if len(self.entries) >= MOST or self.size >= LONGEST:
+                    self.has_missed = True
+                elif self.is_new(it.position):
                     self.entries[it.position] = it
                     self.size += len(it.body)
 

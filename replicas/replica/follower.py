@@ -27,6 +27,7 @@ from replica.joining import groups
 from replica.log import Log
 from replica.memo import Memo
 from replica.office import Office, has_content, work_file
+from replica.reading import LOOK_SECONDS, Reading
 from replica.regular import Regular
 from replica.settings import Settings
 from replica.snapshots import Snapshots
@@ -34,10 +35,6 @@ from replica.waits import Waits
 
 IDLE_SECONDS = 1
 """without entries, until the disk is told that FILE is settled"""
-LOOK_SECONDS = 0.5
-"""between two looks at the log where nothing wakes this thread"""
-NEWEST = 200
-"""answers that are kept at hand, so that few are looked for in the memo"""
 ROOM_SECONDS = 5
 """between two looks at how full etcd is"""
 SNAPSHOT_BYTES = 256 * 1024**2
@@ -70,11 +67,10 @@ class Follower:
         self.blocked, self.regular = Blocked(settings.folder), Regular(settings.snapshot_seconds, settings.name)
         self.is_claimed = self.is_untold = False
         self.restores = self.done = 0
-        self.newest: dict[int, tuple[str, bytes]] = {}
-        """keys and answers of the entries that were done last"""
         self.doing = Doing(office, log.program, lambda it: None if self.memo is None else self.memo.answer_at(it))
         self.pause = 0.2
-        self.looked = self.read_again = 0.0
+        self.looked = 0.0
+        self.reading = Reading(log, appender.arrived, snapshots.folder)
 
     # ---- from the start to the end
 
@@ -137,7 +133,7 @@ class Follower:
             self.snapshots.restore()
             memo = Memo(self.snapshots.work / "memo.db")
         self.memo, self.position, self.reported = memo, memo.position, None
-        self.read_again = 0.0
+        self.reading.begin()
         self.start_office(memo)
         say(f"opened at {self.position} {'as it was' if was_settled else 'from a snapshot'}")
         return memo
@@ -225,7 +221,7 @@ class Follower:
         if held == self.position + 1 and self.may_do(held):
             self.blocked.release()
             held = None
-        return [it._replace(kind=REFUSED) if it.position in self.log.refused else it for it in self.next_entries()
+        return [it._replace(kind=REFUSED) if it.position in self.log.refused else it for it in self.reading.after(self.position)
                 if held is None or it.position < held]
 
     def may_do(self, position: int) -> bool:
@@ -239,27 +235,6 @@ class Follower:
             return True
         except (NotTaken, Unclear):
             return False
-
-    def next_entries(self) -> list[Entry]:
-        """The entries after the position; none where etcd does not answer.
-
-        Fault where they are not there any more.
-        """
-        arrived = self.appender.arrived
-        entries = arrived.after(self.position)
-        if entries or not arrived.lacks_some() and time.monotonic() < self.read_again:
-            return entries
-        arrived.has_missed = False
-        try:
-            entries, tail = self.log.after(self.position)
-        except (NotTaken, Unclear):
-            arrived.has_missed = True
-            return []
-        self.read_again = 0.0 if entries else time.monotonic() + LOOK_SECONDS
-        if entries[0].position != self.position + 1 if entries else tail > self.position:
-            raise Fault(f"the log does not have {self.position + 1} any more: copy a snapshot of "
-                        f"another member into {self.snapshots.folder}")
-        return entries
 
     def do(self, memo: Memo, group: list[Entry], comparison: Comparison) -> None:
         """Gives entries to the office, as one list where they can be joined, and remembers their answers.
@@ -287,11 +262,7 @@ class Follower:
         for entry, answer in zip(group, answers):
             chain = hashlib.sha256(chain.encode() + answer).hexdigest()
             comparison.note(entry.position, chain)
-        rows = [(it.position, it.key, answer) for it, answer in zip(group, answers)]
-        memo.advance(rows, chain)
-        if len(self.newest) > NEWEST:
-            self.newest = {}
-        self.newest.update((position, (key, answer)) for position, key, answer in rows)
+        memo.advance([(it.position, it.key, answer) for it, answer in zip(group, answers)], chain)
         self.done += len(group)
         for entry in group:
             self.blocked.done(entry.position)
@@ -409,9 +380,7 @@ class Follower:
 
     def answer(self, position: int, key: str) -> bytes | None:
         """What the entry was answered here, if that is remembered."""
-        newest, memo = self.newest.get(position), self.memo
-        if newest is not None and newest[0] == key:
-            return newest[1]
+        memo = self.memo
         try:
             return None if memo is None else memo.answer(position, key)
         except sqlite3.Error:
