@@ -322,8 +322,10 @@ class Follower:
                 self.is_untold = False
             oldest = self.snapshots.positions()[-1]
             if oldest != self.reported:
-                self.forget(memo, self.log.report_snapshot(oldest) - self.settings.keys_kept)
-                self.reported = oldest
+                until, is_all = self.log.report_snapshot(oldest)
+                self.forget(memo, until - self.settings.keys_kept)
+                if is_all:
+                    self.reported = oldest
             if time.monotonic() - self.looked > ROOM_SECONDS:
                 self.looked = time.monotonic()
                 self.log.look_for_room()

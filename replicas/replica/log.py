@@ -30,7 +30,7 @@ from replica.errors import Halt, NotTaken, Unclear, say
 from replica.etcd import Etcd, Part, Row, absent, drop, get, has, put
 from replica.settings import Settings
 
-READ_AT_ONCE = 32
+READ_AT_ONCE, DROPPED_AT_ONCE = 32, 1000
 MACHINE_ID = pathlib.Path("/etc/machine-id")
 
 
@@ -243,26 +243,30 @@ class Log:
             raise NotTaken(f"the name {self.member} was not this member's any more")
         return rows
 
-    def report_snapshot(self, position: int) -> int:
-        """Reports the own older snapshot, and drops what every member has in its older one.
+    def report_snapshot(self, position: int) -> tuple[int, bool]:
+        """Reports the own older snapshot, and drops what every member has in its older one, some entries at a time, so
+        that no act waits long for it.
 
-        Gives the least position of all members' older snapshots.
+        Gives the position up to which the log is dropped, and whether that is all.
         """
         top = self.top
         rows = self.reported([put(top + "members/" + self.member, str(position)),
                               get(top + "members/", top + "members0"), get(top + "first")])
         least, first = min(int(value) for _, value in rows[1]), int(rows[2][0][1])
-        if least >= first:
+        until = min(least, first + DROPPED_AT_ONCE - 1)
+        if until >= first:
             self.dropped = self.etcd.change(
                 [has(top + "first", str(first))],
-                [put(top + "first", str(least + 1)),
-                 drop(self.entry_key(0), self.entry_key(least + 1)),
-                 drop(top + "chain/", self.chain_key(least)),
-                 drop(top + "refused/", self.refused_key(least + 1))])
+                [put(top + "first", str(until + 1)),
+                 drop(self.entry_key(0), self.entry_key(until + 1)),
+                 drop(top + "chain/", self.chain_key(until)),
+                 drop(top + "refused/", self.refused_key(until + 1))]) or self.dropped
+        if until < least:
+            return until, False
         if self.dropped:
             self.etcd.compact(self.dropped)
             self.dropped = 0
-        return least
+        return least, True
 
     def drop_keys(self, keys: Sequence[str]) -> None:
         """From now on a request with one of these keys is a new request."""

@@ -34,7 +34,7 @@ MUTANTS = [
     Mutant("another body with a known key gets the first answer", "appending.py",
            'if digest == it.request.digest else Appended(None, "key"))', ")", "other_body"),
     Mutant("keys are dropped with their entries", "follower.py",
-           "self.log.report_snapshot(oldest) - self.settings.keys_kept)", "self.log.report_snapshot(oldest))", "old_key"),
+           "self.forget(memo, until - self.settings.keys_kept)", "self.forget(memo, until)", "old_key"),
     Mutant("who may be in the log is told `quorum`", "appending.py",
            '            self.end(Appended(None, "unknown"))\n        return', '            self.end(Appended(None, "quorum"))\n        return',
            "late"),
