@@ -221,8 +221,8 @@ class Follower:
         if held == self.position + 1 and self.may_do(held):
             self.blocked.release()
             held = None
-        return [it._replace(kind=REFUSED) if it.position in self.log.refused else it for it in self.reading.after(self.position)
-                if held is None or it.position < held]
+        return [it._replace(kind=REFUSED) if it.position in self.log.refused else it
+                for it in self.reading.after(self.position) if held is None or it.position < held]
 
     def may_do(self, position: int) -> bool:
         """Whether an entry that failed may be tried, or is refused. A promise is taken back before."""

@@ -13,7 +13,7 @@ LONGEST_LINE = 65_536
 
 
 class Link:
-    """One connection, for one thread at a time. OSError, ValueError: there is no whole answer, and it is of no more use."""
+    """One connection, for one thread at a time. After an OSError or ValueError there was no whole answer: close it."""
 
     def __init__(self, connection: http.client.HTTPConnection) -> None:
         """Takes one that is connected."""
@@ -34,8 +34,9 @@ class Link:
 
     def ask(self, path: str, body: bytes, lines: bytes = b"") -> tuple[int, bytes]:
         """The status and the body of the answer. `lines` are more lines of the head."""
-        self.connection.sock.sendall(b"POST %s HTTP/1.1\r\nHost: %s\r\nContent-Type: application/json\r\n%s"
-                                     b"Content-Length: %d\r\n\r\n%s" % (path.encode(), self.place, lines, len(body), body))
+        head = (b"POST %s HTTP/1.1\r\nHost: %s\r\nContent-Type: application/json\r\n%sContent-Length: %d\r\n\r\n"
+                % (path.encode(), self.place, lines, len(body)))
+        self.connection.sock.sendall(head + body)
         status = int(self.line().split()[1])
         size: int | None = None
         while line := self.line().lower():

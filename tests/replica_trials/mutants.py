@@ -134,8 +134,7 @@ MUTANTS = [
            "        is_there = goal is not None and self.position >= goal\n", "never_back"),
     # ---- what cannot be done, and what hangs
     Mutant("an entry that was refused is done", "follower.py",
-           "        return [it._replace(kind=REFUSED) if it.position in self.log.refused else it for it in self.reading.after(self.position)\n",
-           "        return [it for it in self.reading.after(self.position)\n", "refused"),
+           "        return [it._replace(kind=REFUSED) if it.position in self.log.refused else it\n", "        return [it\n", "refused"),
     Mutant("an entry is refused though a member has not promised not to do it", "refusing.py",
            "    if others or not names:\n", "    if not names:\n", "refused"),
     Mutant("an entry is tried again while its promise stands", "follower.py",
