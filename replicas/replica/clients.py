@@ -6,7 +6,6 @@ own office, a POST as PUT, which the office takes nowhere: so it changes nothing
 from __future__ import annotations
 
 import http.server
-import io
 import json
 import re
 import socket
@@ -15,7 +14,6 @@ import uuid
 from typing import Any
 
 from replica import metrics
-from replica.heads import simple_head
 from replica.service import ANY, NEWEST, Answer, Service
 
 KINDS = {"/acts": "acts", "/run/resume": "resume"}
@@ -49,19 +47,6 @@ class Handler(http.server.BaseHTTPRequestHandler):
     protocol_version = "HTTP/1.1"
     timeout = 60
     server: Server
-
-    def handle_one_request(self) -> None:
-        """The one request of a connection."""
-        self.close_connection = True
-        try:
-            assert isinstance(self.rfile, io.BufferedReader)
-            simple = simple_head(self.rfile)
-            if simple is None:
-                return super().handle_one_request()
-            self.requestline, self.request_version, self.headers = simple  # type: ignore[assignment]
-            self.do_POST()
-        except TimeoutError:
-            pass  # nobody is told: it sends nothing
 
     def log_message(self, format: str, *args: Any) -> None:
         """Requests are in the log, and nginx writes who made them."""

@@ -15,7 +15,7 @@ from replica.errors import NotTaken, Unclear
 from replica.link import Link
 
 CALL_SECONDS = 3
-LEADER = b"Grpc-Metadata-hasleader: true\r\n"
+LEADER = (("Grpc-Metadata-hasleader", "true"),)
 """by this line etcd begins only where it knows a leader"""
 # what etcd says where it has not begun, and the error that a client gets then
 NOT_BEGUN = {"no leader": "quorum", "too many requests": "quorum", "space exceeded": "full",
@@ -119,9 +119,9 @@ class Etcd:
         """
         link = self.free_link()
         try:
-            status, told = link.ask(path, json.dumps(what).encode(), b"" if local else LEADER)
+            status, told = link.ask(path, json.dumps(what).encode(), () if local else LEADER)
             answer: Part = json.loads(told)
-        except (OSError, ValueError, IndexError) as error:
+        except (OSError, ValueError) as error:
             link.close()
             raise Unclear(f"etcd: {error!r}") from error
         self.idle.append(link)
