@@ -10,17 +10,17 @@ import threading
 import time
 from typing import Callable
 
+from replica.arrived import Arrived
+from replica.entries import Entry
 from replica.errors import NotTaken, Unclear, say
 from replica.etcd import CALL_SECONDS
-from replica.log import Appended, Entry, Log, Request
+from replica.log import Appended, Log, Request
 
 MOST, LONGEST = 60, 1_048_576
 """requests of one transaction, and bytes of their bodies: etcd takes 128 operations, and 1.5 MB"""
 MOST_WAITING, MOST_BYTES, WAIT_SECONDS = 2000, 134_217_728, 30
 """requests, bytes of their bodies, and seconds, until one that was not tried is `busy`"""
 AGAIN_SECONDS = 0.1
-OWN_ENTRIES, OWN_BYTES = 500, 16_777_216
-"""that are kept for the follower, so that it need not read them"""
 
 
 class Waiting:
@@ -65,8 +65,7 @@ class Appender:
         """is called with the first of some new entries, and with what was done here before they were put there"""
         self.changed = threading.Condition()
         self.queue: list[Waiting] = []
-        self.own: dict[int, Entry] = {}
-        self.own_bytes = 0
+        self.arrived = Arrived()
         self.appended = self.transactions = 0
 
     # ---- for clients
@@ -135,7 +134,7 @@ class Appender:
         if first is None:
             return self.end_found(group, found)
         self.appended, self.transactions = self.appended + len(group), self.transactions + 1
-        self.keep(first, group)
+        self.arrived.add([it.entry._replace(position=place) for place, it in enumerate(group, first)])
         self.tell(first, before)
         for number, it in enumerate(group):
             it.end(Appended(first + number))
@@ -155,24 +154,3 @@ class Appender:
             if it.request.key in found:
                 position, digest = found[it.request.key]
                 it.end(Appended(position) if digest == it.request.digest else Appended(None, "key"))
-
-    # ---- for the follower
-
-    def keep(self, first: int, group: list[Waiting]) -> None:
-        """Keeps new entries, until the follower has them or they are too many."""
-        with self.changed:
-            for number, it in enumerate(group):
-                self.own[first + number] = it.entry._replace(position=first + number)
-                self.own_bytes += len(it.entry.body)
-            if len(self.own) > OWN_ENTRIES or self.own_bytes > OWN_BYTES:
-                self.own, self.own_bytes = {}, 0
-
-    def after(self, position: int) -> list[Entry]:
-        """The entries after a position that this member has appended itself, up to the first that it has not."""
-        with self.changed:
-            for it in [it for it in self.own if it <= position]:
-                self.own_bytes -= len(self.own.pop(it).body)
-            found: list[Entry] = []
-            while (entry := self.own.get(position + 1 + len(found))) is not None:
-                found.append(entry)
-        return found

@@ -6,9 +6,9 @@ from __future__ import annotations
 
 from typing import Callable, Iterator
 
+from replica.entries import Entry
 from replica.errors import Fault, Halt
 from replica.joining import join
-from replica.log import Entry
 from replica.office import Office, follows_from_log, status_of
 
 KINDS = {"acts": "/acts", "resume": "/run/resume"}

@@ -7,15 +7,16 @@ from __future__ import annotations
 import base64
 import http.client
 import json
-import select
 import ssl
-import threading
 import time
-from typing import Any, Sequence
+from typing import Any, Callable, Sequence
 
 from replica.errors import NotTaken, Unclear
+from replica.link import Link
 
 CALL_SECONDS = 3
+LEADER = (("Grpc-Metadata-hasleader", "true"),)
+"""by this line etcd begins only where it knows a leader"""
 # what etcd says where it has not begun, and the error that a client gets then
 NOT_BEGUN = {"no leader": "quorum", "too many requests": "quorum", "space exceeded": "full",
              "too large": "full"}
@@ -74,21 +75,12 @@ def rows_of(response: Part) -> list[Row]:
             for row in found]
 
 
-def is_open(link: http.client.HTTPConnection) -> bool:
-    """Whether the other side has not closed a connection on which nothing is awaited."""
-    if link.sock is None:
-        return False
-    poll = select.poll()
-    poll.register(link.sock, select.POLLIN)
-    return not poll.poll(0)
-
-
 class Etcd:
     """The gateway of one etcd, for any number of threads."""
 
     def __init__(self, place: str, tls: ssl.SSLContext | None) -> None:
         self.place, self.tls = place, tls
-        self.idle: list[http.client.HTTPConnection] = []
+        self.idle: list[Link] = []
         self.certificate_ends: float | None = None
         """when the certificate that this etcd showed last ends, in seconds since 1970"""
 
@@ -108,17 +100,17 @@ class Etcd:
                 self.certificate_ends = ssl.cert_time_to_seconds(str(shown["notAfter"]))
         return link
 
-    def free_link(self) -> http.client.HTTPConnection:
+    def free_link(self) -> Link:
         """A connection that nobody else uses now."""
         while self.idle:
             try:
                 link = self.idle.pop()
             except IndexError:
                 break
-            if is_open(link):
+            if link.is_open():
                 return link
             link.close()
-        return self.connected(CALL_SECONDS)
+        return Link(self.connected(CALL_SECONDS))
 
     def call(self, path: str, what: Part, local: bool) -> Part:
         """What etcd answers. NotTaken: it has not begun. Unclear: nobody knows whether it has.
@@ -127,15 +119,13 @@ class Etcd:
         """
         link = self.free_link()
         try:
-            head = {} if local else {"Grpc-Metadata-hasleader": "true"}
-            link.request("POST", path, json.dumps(what), head)
-            response = link.getresponse()
-            answer: Part = json.loads(response.read())
-        except (OSError, http.client.HTTPException, ValueError) as error:
+            status, told = link.ask(path, json.dumps(what).encode(), () if local else LEADER)
+            answer: Part = json.loads(told)
+        except (OSError, ValueError) as error:
             link.close()
             raise Unclear(f"etcd: {error!r}") from error
         self.idle.append(link)
-        if response.status != 200:
+        if status != 200:
             message = str(answer.get("message", answer))
             for text, name in NOT_BEGUN.items():
                 if text in message:
@@ -178,18 +168,21 @@ class Etcd:
         answer = self.call("/v3/maintenance/status", {}, True)
         return int(answer.get("dbSizeInUse", answer.get("dbSize", 0)))
 
-    def watch(self, key: str, changed: threading.Event) -> None:
-        """Sets the event whenever the key has changed, and now and then besides. Never returns."""
+    def watch(self, first: str, end: str, told: Callable[[list[tuple[str, str]]], None]) -> None:
+        """Tells of the keys from `first` to before `end` that get a value here, with it as the gateway writes it, in the
+        order of the log. Tells of none where some may have come unseen before. Never returns."""
+        what = {"create_request": {"key": encoded(first), "range_end": encoded(end), "filters": ["NODELETE"]}}
         while True:
             try:
                 link = self.connected(60)
-                what = {"create_request": {"key": encoded(key)}}
                 link.request("POST", "/v3/watch", json.dumps(what))
                 response = link.getresponse()
                 while line := response.readline():
-                    changed.set()
-                    if b'"canceled":true' in line:
+                    result = json.loads(line).get("result", {})
+                    told([(base64.b64decode(it["kv"]["key"]).decode(), it["kv"].get("value", ""))
+                          for it in result.get("events", ())])
+                    if result.get("canceled"):
                         break
-            except (NotTaken, OSError, http.client.HTTPException):
+            except (NotTaken, OSError, http.client.HTTPException, ValueError, KeyError):
                 pass
             time.sleep(0.2)

@@ -21,19 +21,20 @@ from replica.appending import Appender
 from replica.blocked import Blocked
 from replica.comparison import Comparison
 from replica.doing import REFUSED, Doing
+from replica.entries import NO_ACTS, Entry
 from replica.errors import Fault, Halt, NotTaken, Unclear, say
 from replica.joining import groups
-from replica.log import NO_ACTS, Entry, Log
+from replica.log import Log
 from replica.memo import Memo
 from replica.office import Office, has_content, work_file
+from replica.reading import LOOK_SECONDS, Reading
 from replica.regular import Regular
 from replica.settings import Settings
 from replica.snapshots import Snapshots
+from replica.waits import Waits
 
 IDLE_SECONDS = 1
 """without entries, until the disk is told that FILE is settled"""
-LOOK_SECONDS = 0.5
-"""between two looks at the log where nothing wakes this thread"""
 ROOM_SECONDS = 5
 """between two looks at how full etcd is"""
 SNAPSHOT_BYTES = 256 * 1024**2
@@ -51,8 +52,8 @@ class Follower:
         appender.position, appender.tell = lambda: self.position, self.appended
         self.office, self.snapshots = office, snapshots
         self.memo: Memo | None = None
-        self.moved = threading.Condition()
-        """notified whenever one of the next three changes"""
+        self.moved = Waits()
+        """woken whenever one of the next three changes"""
         self.is_answering = False
         self.is_before = False
         """it answers readings alone, of the state before an entry that it cannot do"""
@@ -69,6 +70,7 @@ class Follower:
         self.doing = Doing(office, log.program, lambda it: None if self.memo is None else self.memo.answer_at(it))
         self.pause = 0.2
         self.looked = 0.0
+        self.reading = Reading(log, appender.arrived, snapshots.folder)
 
     # ---- from the start to the end
 
@@ -131,6 +133,7 @@ class Follower:
             self.snapshots.restore()
             memo = Memo(self.snapshots.work / "memo.db")
         self.memo, self.position, self.reported = memo, memo.position, None
+        self.reading.begin()
         self.start_office(memo)
         say(f"opened at {self.position} {'as it was' if was_settled else 'from a snapshot'}")
         return memo
@@ -179,9 +182,9 @@ class Follower:
                 self.do(memo, group, comparison)
                 last, size = time.monotonic(), size + sum(len(it.body) for it in group)
                 is_due = is_due or size > SNAPSHOT_BYTES or any(self.is_snapshot_at(it.position) for it in group)
-                if is_due and self.is_answering or self.stopping.is_set():
+                if is_due and self.may_pause(size) or self.stopping.is_set():
                     break
-            if self.is_snapshot_now(is_due):
+            if self.is_snapshot_now(is_due, size):
                 size, is_due = 0, False
                 self.snapshots.take(self.position, self.at_rest(memo))
             self.report(memo, comparison)
@@ -218,8 +221,8 @@ class Follower:
         if held == self.position + 1 and self.may_do(held):
             self.blocked.release()
             held = None
-        return [it._replace(kind=REFUSED) if it.position in self.log.refused else it for it in self.next_entries()
-                if held is None or it.position < held]
+        return [it._replace(kind=REFUSED) if it.position in self.log.refused else it
+                for it in self.reading.after(self.position) if held is None or it.position < held]
 
     def may_do(self, position: int) -> bool:
         """Whether an entry that failed may be tried, or is refused. A promise is taken back before."""
@@ -232,23 +235,6 @@ class Follower:
             return True
         except (NotTaken, Unclear):
             return False
-
-    def next_entries(self) -> list[Entry]:
-        """The entries after the position; none where etcd does not answer.
-
-        Fault where they are not there any more.
-        """
-        own = self.appender.after(self.position)
-        if own:
-            return own
-        try:
-            entries, tail = self.log.after(self.position)
-        except (NotTaken, Unclear):
-            return []
-        if entries[0].position != self.position + 1 if entries else tail > self.position:
-            raise Fault(f"the log does not have {self.position + 1} any more: copy a snapshot of "
-                        f"another member into {self.snapshots.folder}")
-        return entries
 
     def do(self, memo: Memo, group: list[Entry], comparison: Comparison) -> None:
         """Gives entries to the office, as one list where they can be joined, and remembers their answers.
@@ -285,20 +271,25 @@ class Follower:
     def move(self) -> None:
         """Clients may have the answers up to the memo's position now."""
         assert self.memo is not None
-        with self.moved:
+        with self.moved.lock:
             self.position = self.memo.position
             self.highest = max(self.highest, self.position)
-            self.moved.notify_all()
+            self.moved.wake()
 
     # ---- snapshots and reports
 
     def is_snapshot_at(self, position: int) -> bool:
         return (position - self.settings.snapshot_at) % self.settings.snapshot_every == 0
 
-    def is_snapshot_now(self, is_due: bool) -> bool:
-        """Whether one begins now: by the entries, by SIGHUP or by the time. A member that recovers
-        answers first, and one that makes a snapshot begins no other."""
-        if not self.is_answering or self.snapshots.is_under_way():
+    def may_pause(self, size: int) -> bool:
+        """Whether a snapshot may begin now. A member that recovers answers first; one that makes a snapshot begins no
+        other, nor soon after the last one, unless somebody asks for it or many bytes came since."""
+        is_soon = self.regular.is_soon(self.settings.snapshot_pause) and size <= SNAPSHOT_BYTES
+        return self.is_answering and not self.snapshots.is_under_way() and (self.wants_snapshot or not is_soon)
+
+    def is_snapshot_now(self, is_due: bool, size: int) -> bool:
+        """Whether one begins now: by the entries, by SIGHUP or by the time."""
+        if not self.may_pause(size):
             return False
         if not is_due and not self.wants_snapshot:
             if not self.regular.is_due():
@@ -331,8 +322,10 @@ class Follower:
                 self.is_untold = False
             oldest = self.snapshots.positions()[-1]
             if oldest != self.reported:
-                self.forget(memo, self.log.report_snapshot(oldest) - self.settings.keys_kept)
-                self.reported = oldest
+                until, is_all = self.log.report_snapshot(oldest)
+                self.forget(memo, until - self.settings.keys_kept)
+                if is_all:
+                    self.reported = oldest
             if time.monotonic() - self.looked > ROOM_SECONDS:
                 self.looked = time.monotonic()
                 self.log.look_for_room()
@@ -369,25 +362,23 @@ class Follower:
         self.set_before(is_before and not is_split)
 
     def set_answering(self, is_answering: bool) -> None:
-        with self.moved:
+        with self.moved.lock:
             if self.is_answering != is_answering:
                 self.is_answering = is_answering
                 say(f"{'answers from' if is_answering else 'stops answering at'} {self.position}")
-            self.moved.notify_all()
+            self.moved.wake()
 
     def set_before(self, is_before: bool) -> None:
-        with self.moved:
+        with self.moved.lock:
             if self.is_before != is_before:
                 self.is_before = is_before
                 say(f"{'reads the state at' if is_before else 'no longer reads at'} {self.position}")
-            self.moved.notify_all()
+            self.moved.wake()
 
     def reaches(self, position: int, seconds: float, reading: bool = False) -> bool:
         """Waits until this member answers, or at least readings, and has done the entry at a position."""
-        with self.moved:
-            return self.moved.wait_for(
-                lambda: (self.is_reading if reading else self.is_answering)
-                and self.position >= position, seconds)
+        return self.moved.until(
+            lambda: self.position >= position and (self.is_reading if reading else self.is_answering), seconds)
 
     def answer(self, position: int, key: str) -> bytes | None:
         """What the entry was answered here, if that is remembered."""

@@ -10,7 +10,7 @@ import json
 import re
 from typing import Iterator, Sequence
 
-from replica.log import Entry
+from replica.entries import Entry
 
 LONGEST = 262_144
 """bytes of a joined list; an entry that is longer goes alone"""

@@ -17,32 +17,21 @@ What is dropped is compacted too, so that etcd gives no earlier revision of it e
 """
 from __future__ import annotations
 
+import base64
 import hashlib
-import json
 import pathlib
 import socket
 import threading
 from typing import NamedTuple, Sequence
 
+from replica.arrived import Arrived
+from replica.entries import Entry, entry_at
 from replica.errors import Halt, NotTaken, Unclear, say
 from replica.etcd import Etcd, Part, Row, absent, drop, get, has, put
 from replica.settings import Settings
 
-READ_AT_ONCE = 32
-NO_ACTS = b"[]"
+READ_AT_ONCE, DROPPED_AT_ONCE = 32, 1000
 MACHINE_ID = pathlib.Path("/etc/machine-id")
-
-
-class Entry(NamedTuple):
-    """A request at its place in the log."""
-
-    position: int
-    key: str
-    kind: str
-    """`acts` or `resume`; `refuse` has the position of an entry that nobody does, as its body"""
-    program: str
-    """the digest of the office's program at the member that appended it"""
-    body: bytes
 
 
 class Request(NamedTuple):
@@ -68,16 +57,6 @@ class End(NamedTuple):
     tail: int
 
 
-def entry_at(key: str, value: bytes) -> Entry:
-    """The entry that a key of etcd has. Halt where it is none."""
-    head, _, body = value.partition(b"\n")
-    try:
-        told = json.loads(head)
-        return Entry(int(key[-16:]), told["key"], told["kind"], told["program"], body)
-    except (ValueError, KeyError, TypeError) as error:
-        raise Halt(f"{key} is no entry: {error!r}") from error
-
-
 def machine_of(folder: pathlib.Path) -> str:
     """The machine and the folder of a member, as no other member has them. The machine's id is not told."""
     own = MACHINE_ID.read_text("ascii") if MACHINE_ID.exists() else socket.gethostname()
@@ -94,6 +73,7 @@ class Log:
         self.top = f"/office/{settings.log}/"
         self.quota = settings.etcd_quota
         self.last, self.is_full = 0, False
+        """where the log ends, as far as this member knows"""
         self.refused: set[int] = set()
         """positions of entries that are known to be refused"""
         self.machine, self.dropped = machine_of(settings.folder), 0
@@ -112,29 +92,37 @@ class Log:
     def try_append(self, requests: Sequence[Request]) -> tuple[int | None, dict[str, tuple[int, str]]]:
         """One transaction: the requests have the next positions, and this gives the first of them.
 
-        Otherwise none of them is there now by this call, and it gives the positions and digests of those whose keys
-        are in the log. One thread of a member appends at a time, and no key is there twice.
+        Otherwise none of them is there now by this call. If the log ends where this member thought, it gives the
+        positions and digests of those whose keys are in it; else it knows the end now. One thread of a member appends
+        at a time, and no key is there twice.
         """
-        first, tail = self.last + 1, self.top + "tail"
+        before, tail = self.last, self.top + "tail"
         keys = [self.top + "keys/" + it.key for it in requests]
-        last = self.last + len(requests)
+        last = before + len(requests)
         puts = [put(tail, str(last))]
-        for position, (it, key) in enumerate(zip(requests, keys), first):
+        for position, (it, key) in enumerate(zip(requests, keys), before + 1):
             puts += [put(self.entry_key(position), it.value), put(key, f"{position} {it.digest}")]
-        done, rows = self.etcd.transact([has(tail, str(self.last)), *map(absent, keys)], puts,
-                                        [get(tail), *map(get, keys)])
+        done, rows = self.etcd.transact([has(tail, str(before)), *map(absent, keys)], puts, [get(tail)])
         if done:
-            self.last = last
-            return first, {}
+            self.last = max(self.last, last)
+            return before + 1, {}
         if not rows[0]:
             raise NotTaken(f"there is no log {self.top} in etcd")
         self.last = int(rows[0][0][1])
+        return None, self.found_keys(requests) if self.last == before else {}
+
+    def found_keys(self, requests: Sequence[Request]) -> dict[str, tuple[int, str]]:
+        """The positions and digests of the requests whose keys are in the log. NotTaken: no majority tells."""
+        try:
+            _, rows = self.etcd.transact([], [get(self.top + "keys/" + it.key) for it in requests])
+        except Unclear as error:
+            raise NotTaken(str(error)) from error
         found = {}
-        for it, row in zip(requests, rows[1:]):
+        for it, row in zip(requests, rows):
             if row:
                 position_text, digest = row[0][1].decode().split()
                 found[it.key] = int(position_text), digest
-        return None, found
+        return found
 
     def tail(self) -> int:
         """The last position at this moment, through the quorum."""
@@ -190,9 +178,25 @@ class Log:
             self.refused.add(position)
         return bool(rows[0])
 
-    def watch(self, changed: threading.Event) -> None:
-        """Sets the event whenever there may be a new entry. Never returns."""
-        self.etcd.watch(self.top + "tail", changed)
+    def watch(self, arrived: Arrived, changed: threading.Event) -> None:
+        """Tells of new entries as this machine's etcd has them, and of those that are refused. Never returns."""
+        def told(rows: list[tuple[str, str]]) -> None:
+            entries = []
+            for key, value in rows:
+                kind = key[len(self.top):-16]
+                if kind == "refused/":
+                    self.refused.add(int(key[-16:]))
+                elif kind == "log/":
+                    self.last = max(self.last, int(key[-16:]))
+                    if arrived.is_new(int(key[-16:])):
+                        entries.append(entry_at(key, base64.b64decode(value)))
+            arrived.add(entries)
+            if not rows:
+                arrived.has_missed = True
+            if entries or not rows:
+                changed.set()
+
+        self.etcd.watch(self.top + "log/", self.top + "refused0", told)
 
     def look_for_room(self) -> None:
         """Takes no entry while three quarters of etcd are in use.
@@ -239,26 +243,30 @@ class Log:
             raise NotTaken(f"the name {self.member} was not this member's any more")
         return rows
 
-    def report_snapshot(self, position: int) -> int:
-        """Reports the own older snapshot, and drops what every member has in its older one.
+    def report_snapshot(self, position: int) -> tuple[int, bool]:
+        """Reports the own older snapshot, and drops what every member has in its older one, some entries at a time, so
+        that no act waits long for it.
 
-        Gives the least position of all members' older snapshots.
+        Gives the position up to which the log is dropped, and whether that is all.
         """
         top = self.top
         rows = self.reported([put(top + "members/" + self.member, str(position)),
                               get(top + "members/", top + "members0"), get(top + "first")])
         least, first = min(int(value) for _, value in rows[1]), int(rows[2][0][1])
-        if least >= first:
+        until = min(least, first + DROPPED_AT_ONCE - 1)
+        if until >= first:
             self.dropped = self.etcd.change(
                 [has(top + "first", str(first))],
-                [put(top + "first", str(least + 1)),
-                 drop(self.entry_key(0), self.entry_key(least + 1)),
-                 drop(top + "chain/", self.chain_key(least)),
-                 drop(top + "refused/", self.refused_key(least + 1))])
+                [put(top + "first", str(until + 1)),
+                 drop(self.entry_key(0), self.entry_key(until + 1)),
+                 drop(top + "chain/", self.chain_key(until)),
+                 drop(top + "refused/", self.refused_key(until + 1))]) or self.dropped
+        if until < least:
+            return until, False
         if self.dropped:
             self.etcd.compact(self.dropped)
             self.dropped = 0
-        return least
+        return least, True
 
     def drop_keys(self, keys: Sequence[str]) -> None:
         """From now on a request with one of these keys is a new request."""

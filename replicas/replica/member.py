@@ -69,7 +69,7 @@ def start(settings: Settings) -> int:
         return 3
     guard = Guard(service, settings.reading_limit)
     threads: list[Callable[[], None]] = [server.serve_forever, freshness.run, guard.run, follower.appender.run,
-                                         lambda: log.watch(follower.changed)]
+                                         lambda: log.watch(follower.appender.arrived, follower.changed)]
     for thread in threads:
         threading.Thread(target=thread, daemon=True).start()
     try:

@@ -11,6 +11,7 @@ import sqlite3
 import threading
 from typing import Iterator, Sequence
 
+NEWEST = 200
 SCHEMA = """
 CREATE TABLE meta (epoch TEXT, position INTEGER, chain TEXT, settled INTEGER);
 CREATE TABLE answers (position INTEGER PRIMARY KEY, key TEXT, answer BLOB);
@@ -39,6 +40,8 @@ class Memo:
         self.position: int = meta[1]
         self.chain: str = meta[2]
         self.settled = bool(meta[3])
+        self.newest: dict[int, tuple[str, bytes]] = {}
+        """keys and answers of the last entries, so that few are looked for in the file"""
 
     @staticmethod
     def make(file: pathlib.Path, epoch: str) -> None:
@@ -72,9 +75,15 @@ class Memo:
                     self.rows.execute("ROLLBACK")
                 raise
             self.position, self.chain = position, chain
+        if len(self.newest) > NEWEST:
+            self.newest = {}
+        self.newest.update((place, (key, answer)) for place, key, answer in answers)
 
     def answer(self, position: int, key: str) -> bytes | None:
         """What the entry with this key at this position was answered, if that is remembered."""
+        newest = self.newest.get(position)
+        if newest is not None and newest[0] == key:
+            return newest[1]
         with self.lock:
             row = self.rows.execute("SELECT answer FROM answers WHERE position=? AND key=?",
                                     (position, key)).fetchone()

@@ -12,9 +12,10 @@ import json
 import sys
 
 from replica.doing import REFUSE
+from replica.entries import Entry, entry_at
 from replica.errors import Halt, NotTaken, Unclear
 from replica.etcd import Etcd, absent, get, has, none_after, put
-from replica.log import Entry, Log, entry_at
+from replica.log import Log
 from replica.settings import read_settings
 
 TRIES = 5

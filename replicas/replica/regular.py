@@ -8,7 +8,7 @@ from __future__ import annotations
 import time
 import zlib
 
-from replica.log import NO_ACTS, Entry
+from replica.entries import NO_ACTS, Entry
 from replica.snapshots import KEPT
 
 ASK_SECONDS = 60
@@ -31,6 +31,10 @@ class Regular:
 
     def taken(self) -> None:
         self.owed, self.last = max(0, self.owed - 1), time.monotonic()
+
+    def is_soon(self, seconds: int) -> bool:
+        """Whether so few seconds have gone by since the last one, or since the start."""
+        return time.monotonic() - self.last < seconds
 
     def may_ask(self) -> bool:
         """Says so once a minute: what it asks for may fail while there is no majority."""

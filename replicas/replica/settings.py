@@ -32,6 +32,8 @@ class Settings:
     key: str | None = None
     snapshot_every: int = 1000
     """entries from one snapshot to the next"""
+    snapshot_pause: int = 30
+    """seconds from one snapshot to the next at least, however many entries come"""
     snapshot_at: int = 0
     """so many entries later, so that not all members pause at once"""
     compare_every: int = 100

@@ -143,8 +143,8 @@ class Cluster:
                  "--initial-advertise-peer-urls", self.peer_address(machine),
                  "--initial-cluster", peers, "--initial-cluster-token", self.folder.name,
                  "--auto-compaction-mode", "periodic", "--auto-compaction-retention", "24h",
-                 "--quota-backend-bytes", str(self.quota), "--log-level", "warn",
-                 "--logger", "zap"]
+                 "--quota-backend-bytes", str(self.quota), "--backend-batch-interval", "1s",
+                 "--log-level", "warn", "--logger", "zap"]
         for prefix in ("", "peer-") if self.tls else ():
             words += [f"--{prefix}cert-file", f"{self.tls}/m{machine}.crt",
                       f"--{prefix}key-file", f"{self.tls}/m{machine}.key",
@@ -162,7 +162,7 @@ class Cluster:
                 "office_port": self.port(machine, "office"),
                 "listen": self.port(machine, "listen"),
                 "etcd": f"127.0.0.1:{self.port(uses, 'client')}",
-                "snapshot_every": 150, "snapshot_at": 50 * machine, "compare_every": 20}
+                "snapshot_every": 150, "snapshot_pause": 0, "snapshot_at": 50 * machine, "compare_every": 20}
         if self.tls:
             told.update(ca=f"{self.tls}/ca.crt", certificate=f"{self.tls}/m{uses}.crt",
                         key=f"{self.tls}/m{uses}.key")

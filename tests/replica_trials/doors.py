@@ -2,10 +2,14 @@
 from __future__ import annotations
 
 import contextlib
+import json
 import queue
+import signal
 import socket
 import threading
 import time
+
+from replica_trials.cluster import Cluster
 
 
 class Door:
@@ -60,3 +64,15 @@ class Door:
                     return one.close()
                 if not self.is_silent:
                     one.sendall(part)
+
+
+def through_door(cluster: Cluster, machine: int, seconds: float) -> Door:
+    """The member of a machine is started anew, and reaches its etcd through a door from now on."""
+    port = cluster.base + 90
+    door = Door(port, cluster.port(machine, "client"), seconds)
+    cluster.kill(f"member{machine}", how=signal.SIGTERM)
+    path = cluster.write_settings(machine)
+    path.write_text(json.dumps({**json.loads(path.read_text()), "etcd": f"127.0.0.1:{port}"}))
+    cluster.start_member(machine)
+    cluster.wait_for(machine, cluster.position(0))
+    return door

@@ -64,7 +64,7 @@ def full_etcd(cluster: Cluster) -> None:
     begun(cluster)
     cluster.kill("member2")
     source, number, reply = random.Random(7), 0, None
-    while number < 40 and (reply is None or reply.body != b'{"error":"full"}'):
+    while number < 400 and (reply is None or reply.body != b'{"error":"full"}'):
         number += 1
         acts = [record(10 + number, source.randbytes(120_000))]
         reply = post(cluster, number % 2, acts, f"full-{number}")

@@ -10,13 +10,18 @@ import time
 from typing import Any
 
 from replica_trials.cluster import FAULTS, Cluster, Reply, ask
+from replica_trials.doors import through_door
 from replica_trials.judging import judge
 from replica_trials.posting import begun, get, halts, post, posted, record
 from replica_trials.verdict import same_rows
 
 SETTLED_SECONDS = 2.5
 """without entries: then FILE is settled"""
+ASKED_SECONDS = 15
+"""until a member has surely asked its etcd in vain for a majority, and then for what it has itself"""
 LONG, KILLS = 400, 5
+MANY = 12
+"""entries of almost a megabyte: more than the connections to an etcd that stands still hold for it"""
 
 
 def change_file(cluster: Cluster, machine: int) -> None:
@@ -93,7 +98,7 @@ def judge_seen(what: str, seen: list[Reply], least: int, some: bool = True) -> N
 def never_back(cluster: Cluster) -> None:
     """A member does its log anew: no reading is of a state before what the log had as it was started, and none before
     what it has answered itself, though its etcd has less for a while. Nobody limits the age here."""
-    cluster.settings.update(age_limit=0, snapshot_every=10**6)
+    cluster.settings.update(age_limit=0, snapshot_every=10**6, snapshot_at=0)
     begun(cluster)
     for number in range(80):
         posted(cluster, number % 2, [record(100 * number + it) for it in range(40)])
@@ -105,27 +110,37 @@ def never_back(cluster: Cluster) -> None:
     watcher = Watcher(cluster, 2)
     cluster.wait_for(2, least)
     judge_seen("a member that does its log anew answers once it is at its end", watcher.stop(), least)
-    kept = keep_etcd(cluster, [2])
+    shorter_etcd(cluster)
+
+
+def shorter_etcd(cluster: Cluster) -> None:
+    """The etcd that member 2 asks has less than it has answered, and no majority: it is machine 1's, which stood still
+    meanwhile. FILE of member 2 is lost then."""
+    door = through_door(cluster, 2, 0)
+    time.sleep(SETTLED_SECONDS)
     shorter = cluster.position(2)
-    for number in range(20):
-        posted(cluster, 2, [record(20_000 + number)])
-    least = cluster.position(2)
-    cluster.kill("etcd0", "etcd1")
-    put_back(cluster, kept)
+    cluster.signal("etcd1", signal.SIGSTOP)
+    for number in range(MANY):
+        posted(cluster, 2, [record(20_000 + number, random.Random(number).randbytes(700_000))])
+    least, restores = cluster.position(2), cluster.journal("member2").count("from a snapshot")
+    door.behind = cluster.port(1, "client")
+    cluster.kill("etcd0", "etcd2")
+    cluster.signal("etcd1", signal.SIGCONT)
     watcher = Watcher(cluster, 2, 3)
-    office = cluster.office_process(2)
-    judge("never back: member 2 has an office", office is not None)
     cluster.file(2).unlink()
     cluster.signal("member2", signal.SIGHUP)
     began = time.monotonic()
-    while cluster.journal("member2").count("from a snapshot") < 2 and time.monotonic() - began < 120:
+    while cluster.journal("member2").count("from a snapshot") == restores and time.monotonic() - began < 120:
         time.sleep(0.1)
-    while cluster.position(2) < shorter and time.monotonic() - began < 240:
+    there = int(cluster.etcdctl(1, "get", "--consistency=s", "--print-value-only", "/office/city/tail").stdout)
+    while cluster.position(2) < there and time.monotonic() - began < 240:
         time.sleep(0.1)
-    time.sleep(15)
-    judge("never back: such a member has done what its etcd has", shorter <= cluster.position(2) < least, cluster.state(2))
-    judge_seen("nor does one whose etcd came back alone, with less, show what it was before", watcher.stop(), least, False)
-    for machine in (0, 1):
+    time.sleep(ASKED_SECONDS)
+    judge("never back: a member whose etcd has less has done what that has",
+          shorter <= there == cluster.position(2) < least, (shorter, there, least, cluster.state(2)))
+    judge_seen("nor does such a member show what it was before", watcher.stop(), least, False)
+    door.behind = cluster.port(2, "client")
+    for machine in (0, 2):
         cluster.start_etcd(machine)
     cluster.wait_for(2, least, 120)
     same_rows(cluster, "never back")

@@ -2,7 +2,6 @@
 nothing is in the log while something may be."""
 from __future__ import annotations
 
-import json
 import random
 import signal
 import threading
@@ -10,7 +9,7 @@ import time
 
 from replica_trials.checks import stale
 from replica_trials.cluster import FAULTS, Cluster, ask
-from replica_trials.doors import Door
+from replica_trials.doors import Door, through_door
 from replica_trials.judging import judge
 from replica_trials.posting import begun, post, posted, record
 from replica_trials.traffic import Read, Traffic
@@ -20,18 +19,6 @@ LATE_SECONDS = 2.0
 LIMIT = 30
 # seconds between two entries, and how long they come
 PACES = [(0.3, 20), (2.5, 30)]
-
-
-def through_door(cluster: Cluster, machine: int) -> Door:
-    """The member of a machine reaches its etcd through a door from now on."""
-    port = cluster.base + 90
-    door = Door(port, cluster.port(machine, "client"), LATE_SECONDS)
-    cluster.kill(f"member{machine}", how=signal.SIGTERM)
-    path = cluster.write_settings(machine)
-    path.write_text(json.dumps({**json.loads(path.read_text()), "etcd": f"127.0.0.1:{port}"}))
-    cluster.start_member(machine)
-    cluster.wait_for(machine, cluster.position(0))
-    return door
 
 
 def read(cluster: Cluster, traffic: Traffic, reader: int, stopping: threading.Event) -> None:
@@ -51,7 +38,7 @@ def read(cluster: Cluster, traffic: Traffic, reader: int, stopping: threading.Ev
 def late(cluster: Cluster) -> None:
     """Etcd's answers reach member 2 two seconds late, while acts come at another member; then its questions alone pass."""
     begun(cluster)
-    door, traffic, stopping = through_door(cluster, 2), Traffic(cluster, 1, 0, 0), threading.Event()
+    door, traffic, stopping = through_door(cluster, 2, LATE_SECONDS), Traffic(cluster, 1, 0, 0), threading.Event()
     readers = [threading.Thread(target=read, args=(cluster, traffic, it, stopping), daemon=True) for it in range(4)]
     for reader in readers:
         reader.start()

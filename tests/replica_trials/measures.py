@@ -91,8 +91,8 @@ def acts_a_second(folder: pathlib.Path) -> None:
     """The bare office, one member and three take turns, so that other work falls on all alike."""
     bare = Bare(folder / "bare.db", 26999)
     bare.post("acts", json.dumps(BEGIN).encode())
-    one = Cluster(folder / "one", 26000, 1, snapshot_every=1000, compare_every=100)
-    three = Cluster(folder / "three", 26100, 3, snapshot_every=1000, compare_every=100)
+    usual = {"snapshot_every": 1000, "snapshot_pause": 30, "compare_every": 100}
+    one, three = Cluster(folder / "one", 26000, 1, **usual), Cluster(folder / "three", 26100, 3, **usual)
     numbers, wrong = Numbers(), 0
     try:
         for cluster in (one, three):
