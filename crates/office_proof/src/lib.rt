@@ -8,13 +8,12 @@
 //!
 //! Not the proofs of this house: the evidence that its user keeps. The types and the definitions
 //! are in `office_rules`; here are the line of an entry and the text of a certificate.
-//! `office_evidence` writes a certificate that was read by the same [`lines`] and [`words`].
 #![tactic(auto)]
 
 mod certificate;
 pub mod laws;
-pub mod lines;
-pub mod words;
+mod lines;
+mod words;
 
-pub use certificate::{certificate_text, entry_line, seal};
+pub use certificate::{certificate_text, entry_line};
 pub use office_rules::{Entry, Outcome, RunNo, digest_of, read_digest};

@@ -1,8 +1,8 @@
-//! Errors of a request with a fixed reply of their own, besides the failed checks of a head.
+//! Failures with a fixed reply of their own, besides the failed checks of a head.
 
 /// Why a request is not served, apart from the checks of its head.
 #[derive(Clone, Copy, PartialEq, Eq, Debug)]
-pub enum RequestError {
+pub enum Failure {
     /// The bytes do not begin with a head within the limits.
     Head,
     /// The connection ends before the body does.
