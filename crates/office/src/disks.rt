@@ -2,9 +2,9 @@
 ghost use Rattle.std.specs.Prelude.{◌≡◌};
 ghost use Rattle.office_command_line.specs.Disks.{finishes_sectors};
 
-use crate::{ended, read_file};
+use crate::{read_file, report_exit};
 use office_command_line::{Disk, Order, UnknownDisk, disk_of};
-use office_commands::{Ending, Routes, open_and_apply, open_and_run, open_and_serve};
+use office_commands::{Exit, Routes, open_and_apply, open_and_run, open_and_serve};
 use office_store::Fault;
 use sqlite::{Start, Unknown, Wary};
 use std::env::VarError;
@@ -25,18 +25,18 @@ pub(crate) struct Place<'a> {
 }
 
 /// The disk that the variable OFFICE_DISK names, or how the program ends where it names none.
-pub(crate) fn disk_of_process(rt: &HostRuntime) -> Result<Disk, Ending> {
+pub(crate) fn disk_of_process(rt: &HostRuntime) -> Result<Disk, Exit> {
     let named = match env::var(rt, "OFFICE_DISK") {
         Ok(value) => disk_of(Some(value.as_str())),
         Err(VarError::NotPresent) => disk_of(None),
         Err(VarError::NotUnicode) => Err(UnknownDisk),
-        Err(VarError::OutOfMemory) => return Err(Ending::Fault(Fault::Memory)),
+        Err(VarError::OutOfMemory) => return Err(Exit::Fault(Fault::Memory)),
     };
     match named {
         Ok(disk) => Ok(disk),
         Err(error) => {
             let _ = eprintln!(rt; "office: {error}");
-            Err(Ending::BadWords)
+            Err(Exit::BadWords)
         }
     }
 }
@@ -53,26 +53,26 @@ fn make_private(rt: &HostRuntime, file: &str) {
 }
 
 /// Does acts at the office at a place, whose files are opened by this start.
-fn apply_over<S: Start>(rt: &HostRuntime, place: Place<'_>, start: S, text: &[u8]) -> Ending
+fn apply_over<S: Start>(rt: &HostRuntime, place: Place<'_>, start: S, text: &[u8]) -> Exit
     requires { S.Start.is_mixing ≡ finishes_sectors place.disk }
 {
     // a line goes out in one write
     match LineWriter::new(rt.alloc(), io::writer(rt)) {
         Ok(mut out) => {
             make_private(rt, place.file);
-            let (ending, _left) = open_and_apply(rt, place.file, start, text, &mut out);
-            ending
+            let (exit, _left) = open_and_apply(rt, place.file, start, text, &mut out);
+            exit
         }
-        Err(_) => Ending::Fault(Fault::Memory),
+        Err(_) => Exit::Fault(Fault::Memory),
     }
 }
 
 /// Does the acts of a file, which is read into memory before the office's file is opened, at the
 /// office at a place.
-pub(crate) fn apply_in(rt: &HostRuntime, place: Place<'_>, acts: &str) -> Ending {
+pub(crate) fn apply_in(rt: &HostRuntime, place: Place<'_>, acts: &str) -> Exit {
     let text = match read_file(rt, acts) {
         Ok(text) => text,
-        Err(stop) => return Ending::from(stop),
+        Err(stop) => return Exit::from(stop),
     };
     match place.disk {
         Disk::Any => apply_over(rt, place, Wary, &text),
@@ -100,7 +100,7 @@ fn run_over<S: Start, R: Read>(
             );
             status
         }
-        Err(_) => ended(rt, Ending::Fault(Fault::Memory)),
+        Err(_) => report_exit(rt, Exit::Fault(Fault::Memory)),
     }
 }
 
@@ -128,26 +128,26 @@ fn serve_over<S: Start>(
     count: u32,
     place: Place<'_>,
     start: S,
-) -> Ending
+) -> Exit
     requires { S.Start.is_mixing ≡ finishes_sectors place.disk }
 {
     let (mut out, mut err) = (io::writer(rt), rt.stderr());
     make_private(rt, place.file);
-    let (ending, _left) = open_and_serve(
+    let (exit, _left) = open_and_serve(
         rt, routes, listener, port, count, place.file, start, &mut out, &mut err,
     );
-    ending
+    exit
 }
 
 /// Serves the office at a place, whose file is made where there is none, at a port of 127.0.0.1,
 /// which no other machine reaches. Where memory is refused for the routes, or the port cannot be
 /// bound, the file stays as it is.
-pub(crate) fn serve_in(rt: &HostRuntime, place: Place<'_>, port: u16, count: u32) -> Ending {
+pub(crate) fn serve_in(rt: &HostRuntime, place: Place<'_>, port: u16, count: u32) -> Exit {
     let Ok(routes) = Routes::new(rt.alloc()) else {
-        return Ending::Fault(Fault::Memory);
+        return Exit::Fault(Fault::Memory);
     };
     let Ok(listener) = TcpListener::bind(rt, SocketAddr::from((Ipv4Addr::LOCALHOST, port))) else {
-        return Ending::Socket;
+        return Exit::Socket;
     };
     match place.disk {
         Disk::Any => serve_over(rt, &routes, &listener, port, count, place, Wary),

@@ -12,7 +12,7 @@ use crate::disks::{Place, apply_in, disk_of_process, run_in, serve_in};
 use clap::error::ErrorKind;
 use office_base::{Stop, read_whole};
 use office_command_line::{Disk, Order, order_of, read_words};
-use office_commands::{Ending, report};
+use office_commands::{Exit, report};
 use office_plan::{due_to, plan_to};
 use office_store::Fault;
 use std::alloc::AllocError;
@@ -20,17 +20,17 @@ use std::fs::File;
 use std::process::ExitCode;
 use std::{env, io};
 
-/// The exit status of an ending, whose line is reported on standard error.
-fn ended(rt: &HostRuntime, ending: Ending) -> u8 {
-    let _ = report(ending, &mut rt.stderr());
-    ending.status()
+/// Reports the line of an exit on standard error, and gives its status.
+fn report_exit(rt: &HostRuntime, exit: Exit) -> u8 {
+    let _ = report(exit, &mut rt.stderr());
+    exit.status()
 }
 
 /// Prints the due days of a plan file.
-fn plan_in(rt: &HostRuntime, file: &str) -> Ending {
+fn plan_in(rt: &HostRuntime, file: &str) -> Exit {
     match File::open(rt, file) {
-        Ok(mut reader) => Ending::from(plan_to(rt.alloc(), &mut reader, &mut io::writer(rt))),
-        Err(error) => Ending::from(Stop::from(error)),
+        Ok(mut reader) => Exit::from(plan_to(rt.alloc(), &mut reader, &mut io::writer(rt))),
+        Err(error) => Exit::from(Stop::from(error)),
     }
 }
 
@@ -44,14 +44,14 @@ fn read_file(rt: &HostRuntime, file: &str) -> Result<Vec<u8>, Stop> {
 fn import_in(rt: &HostRuntime, place: Place<'_>, csv: &str, order: &Order<'_>) -> u8 {
     match File::open(rt, csv) {
         Ok(mut reader) => run_in(rt, place, order, &mut reader),
-        Err(error) => ended(rt, Ending::from(Stop::from(error))),
+        Err(error) => report_exit(rt, Exit::from(Stop::from(error))),
     }
 }
 
 /// Runs a command on the office in a file, on that disk.
 fn run_on_disk(rt: &HostRuntime, disk: Disk, order: &Order<'_>) -> u8 {
     match order {
-        Order::Apply { file, acts } => ended(rt, apply_in(rt, Place { file, disk }, acts)),
+        Order::Apply { file, acts } => report_exit(rt, apply_in(rt, Place { file, disk }, acts)),
         Order::Import { file, csv, .. } => import_in(rt, Place { file, disk }, csv, order),
         Order::Init { file }
         | Order::Resume { file }
@@ -62,9 +62,9 @@ fn run_on_disk(rt: &HostRuntime, disk: Disk, order: &Order<'_>) -> u8 {
             run_in(rt, Place { file, disk }, order, &mut nothing)
         }
         Order::Serve { file, port, count } => {
-            ended(rt, serve_in(rt, Place { file, disk }, *port, *count))
+            report_exit(rt, serve_in(rt, Place { file, disk }, *port, *count))
         }
-        Order::Due { .. } | Order::Plan { .. } | Order::Nothing => ended(rt, Ending::BadWords),
+        Order::Due { .. } | Order::Plan { .. } | Order::Nothing => report_exit(rt, Exit::BadWords),
     }
 }
 
@@ -78,13 +78,13 @@ fn run_order(rt: &HostRuntime, order: &Order<'_>) -> u8 {
             day,
         } => {
             let answer = due_to(unit, count, offset, day, &mut io::writer(rt));
-            ended(rt, Ending::from(answer))
+            report_exit(rt, Exit::from(answer))
         }
-        Order::Plan { file } => ended(rt, plan_in(rt, file)),
-        Order::Nothing => ended(rt, Ending::BadWords),
+        Order::Plan { file } => report_exit(rt, plan_in(rt, file)),
+        Order::Nothing => report_exit(rt, Exit::BadWords),
         _ => match disk_of_process(rt) {
             Ok(disk) => run_on_disk(rt, disk, order),
-            Err(ending) => ended(rt, ending),
+            Err(exit) => report_exit(rt, exit),
         },
     }
 }
@@ -104,27 +104,27 @@ fn run_command_line(rt: &HostRuntime, texts: &[String]) -> Result<u8, AllocError
     match read_words(rt.alloc(), words.as_slice()) {
         Ok(words) => match order_of(words) {
             Ok(order) => Ok(run_order(rt, &order)),
-            Err(refusal) => Ok(ended(rt, Ending::Refused(refusal))),
+            Err(refusal) => Ok(report_exit(rt, Exit::Refused(refusal))),
         },
         Err(error) if error.kind() == ErrorKind::OutOfMemory => Err(AllocError),
         Err(error) => {
             let _ = eprint!(rt; "{error}");
-            Ok(ended(rt, Ending::BadWords))
+            Ok(report_exit(rt, Exit::BadWords))
         }
     }
 }
 
 fn start(rt: &HostRuntime) -> u8 {
-    let out_of_memory = Ending::Fault(Fault::Memory);
+    let out_of_memory = Exit::Fault(Fault::Memory);
     match words_of_process(rt) {
         Ok(texts) => match run_command_line(rt, texts.as_slice()) {
             Ok(status) => status,
-            Err(_) => ended(rt, out_of_memory),
+            Err(_) => report_exit(rt, out_of_memory),
         },
-        Err(error) if error.kind() == io::ErrorKind::OutOfMemory => ended(rt, out_of_memory),
+        Err(error) if error.kind() == io::ErrorKind::OutOfMemory => report_exit(rt, out_of_memory),
         Err(_) => {
             let _ = eprintln!(rt; "office: the words are not UTF-8 text");
-            ended(rt, Ending::BadWords)
+            report_exit(rt, Exit::BadWords)
         }
     }
 }

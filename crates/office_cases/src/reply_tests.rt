@@ -3,8 +3,8 @@ use crate::streams::{Narrow, Sent};
 use httparse::spans::HeaderSpan;
 use office_base::Io;
 use office_http::{
-    Allow, Body, Failure, Head, LONGEST_HEAD, MediaType, Reply, RequestPlan, Routes, Status,
-    check_reply, failure_reply, is_head_in, plan_in, read_head, write_reply,
+    Allow, Body, Head, LONGEST_HEAD, MediaType, Reply, RequestError, RequestPlan, Routes, Status,
+    check_reply, error_reply, is_head_in, plan_in, read_head, write_reply,
 };
 use std::io::Write;
 
@@ -81,26 +81,26 @@ fn report_refused(most: usize, bytes: &[u8], out: &mut Vec<u8>) -> Option<()> {
     }
 }
 
-/// The failure of that word.
-fn failure_of(word: &str) -> Option<Failure> {
+/// The error of that word.
+fn error_of(word: &str) -> Option<RequestError> {
     match word {
-        "head" => Some(Failure::Head),
-        "body" => Some(Failure::Body),
-        "json" => Some(Failure::Json),
-        "memory" => Some(Failure::Memory),
-        "record" => Some(Failure::Record),
-        "content" => Some(Failure::Content),
-        "certificate" => Some(Failure::Certificate),
-        "day" => Some(Failure::Day),
-        "count" => Some(Failure::Count),
+        "head" => Some(RequestError::Head),
+        "body" => Some(RequestError::Body),
+        "json" => Some(RequestError::Json),
+        "memory" => Some(RequestError::Memory),
+        "record" => Some(RequestError::Record),
+        "content" => Some(RequestError::Content),
+        "certificate" => Some(RequestError::Certificate),
+        "day" => Some(RequestError::Day),
+        "count" => Some(RequestError::Count),
         _ => None,
     }
 }
 
-/// The answer to a failure.
-fn report_failure(bytes: &[u8], out: &mut Vec<u8>) -> Option<()> {
-    let failure = failure_of(str::from_utf8(bytes).ok()?)?;
-    report_reply(&failure_reply(failure), false, out)
+/// The answer to an error.
+fn report_error(bytes: &[u8], out: &mut Vec<u8>) -> Option<()> {
+    let error = error_of(str::from_utf8(bytes).ok()?)?;
+    report_reply(&error_reply(error), false, out)
 }
 
 /// What was asked for, as a text.
@@ -130,7 +130,7 @@ fn report_octets(bytes: &[u8], out: &mut Vec<u8>) -> Option<()> {
 pub(crate) fn report(most: usize, word: &str, bytes: &[u8], out: &mut Vec<u8>) -> Option<()> {
     match word {
         "reply" => report_refused(most, bytes, out),
-        "failure" => report_failure(bytes, out),
+        "failure" => report_error(bytes, out),
         "text" => report_text(bytes, out),
         "octets" => report_octets(bytes, out),
         _ => None,

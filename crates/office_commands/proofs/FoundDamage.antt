@@ -14,7 +14,7 @@ use Rattle.sqlite.specs.State.{HasCleanDisk}
 use Rattle.sqlite.proofs.Shield.{shield_means}
 use Rattle.office_commands.specs.Damage.{FindsDamage, HasLeftCollided, HaveCollided, IsLeftClean}
 use Rattle.office_commands.specs.Files.{EndsInFiles, IsLeftOf, IsLeftShielded}
-use Rattle.office_commands.specs.declared.ending.Ending.{Ending}
+use Rattle.office_commands.specs.declared.exit.Exit.{Exit}
 use Rattle.office_commands.specs.declared.office_files.FilesLeft.{FilesLeft}
 use Rattle.office_commands.specs.declared.office_files.FilesLeft.TheVariants as files
 
@@ -37,10 +37,10 @@ module _ {D : Type 0} {g : Ghosts D} where
     ]
     left_clean (files.Unclosed store) shielded = elim (clean_or_collided store shielded) [ inl clean ↦ inl (no_doubt _ clean) | inr collided ↦ inr collided ]
 
-    pub found : (left : FilesLeft D g) (image : Image) (Ends : Held (FileStore D g) → Held (FileStore D g) → Type 0) (written after : Option (List ℕ)) (ending : Ending)
-        → EndsInFiles left image Ends written after ending → FindsDamage start calls left image Ends written after ending
-    found left image Ends written after ending (inl none) = inl (none.0, none.2)
-    found left image Ends written after ending (inr (last, over, is_left)) =
+    pub found : (left : FilesLeft D g) (image : Image) (Ends : Held (FileStore D g) → Held (FileStore D g) → Type 0) (written after : Option (List ℕ)) (exit : Exit)
+        → EndsInFiles left image Ends written after exit → FindsDamage start calls left image Ends written after exit
+    found left image Ends written after exit (inl none) = inl (none.0, none.2)
+    found left image Ends written after exit (inr (last, over, is_left)) =
         inr (
           over.was,
           last,

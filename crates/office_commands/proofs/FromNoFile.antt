@@ -19,7 +19,7 @@ use Rattle.office_commands.specs.NextCommand.{IsLeftBy, IsServedTo}
 use Rattle.office_commands.specs.Opening.{FromOpened, IsUnopened}
 use Rattle.office_commands.specs.Running.{RunEnds}
 use Rattle.office_commands.specs.Serving.{IsDeskOf, ServiceEnds}
-use Rattle.office_commands.specs.declared.ending.Ending.{Ending}
+use Rattle.office_commands.specs.declared.exit.Exit.{Exit}
 use Rattle.office_commands.proofs.NextService.{desk_at, service_so}
 use Rattle.office_commands.proofs.NextStates.{IsEnded, IsOneDatabase, StaySound, at_before, at_unopened, command_so, of_opened}
 
@@ -56,17 +56,17 @@ module _ (one : IsOneDatabase) (stay : StaySound) (empty : IsSound empty_state) 
   desk_rest (inl (ed, rest, sound, rows)) desk clean_desk of = desk_at one stay ends g old new s clean sound ed rest rows desk clean_desk of
   desk_rest (inr (blank, none, is)) desk clean_desk of = subst (λ (t : State). IsAt g t desk) (sym is) (of.opened.made clean_desk blank)
 
-  pub command_from : (order : Command) (text : List ℕ) (written after : Option (List ℕ)) (ending : Ending) → RunEnds g order (Some text) old new written after ending
-      → (db : Trees) → (state g new).may_leave db → (u : State) × IsLeftBy order text written after ending s u × IsOfficeOrBefore (state g old) db u
-  command_from order text written after ending it =
+  pub command_from : (order : Command) (text : List ℕ) (written after : Option (List ℕ)) (exit : Exit) → RunEnds g order (Some text) old new written after exit
+      → (db : Trees) → (state g new).may_leave db → (u : State) × IsLeftBy order text written after exit s u × IsOfficeOrBefore (state g old) db u
+  command_from order text written after exit it =
       let was = state g old in
       let is = state g new in
       command_so stay ends (IsOfficeOrBefore was) (λ db u at. inl at) g old new s (sound_at empty was s rests) (of_rest one stay empty ends was is s clean rests) (before_rest one stay empty ends was is s clean rests)
-      (unopened_rest one stay empty ends was is s clean rests) order text written after ending it
+      (unopened_rest one stay empty ends was is s clean rests) order text written after exit it
 
-  pub service_from : (port count : ℕ) (written after : Option (List ℕ)) (ending : Ending) → ServiceEnds g port count old new written after ending
+  pub service_from : (port count : ℕ) (written after : Option (List ℕ)) (exit : Exit) → ServiceEnds g port count old new written after exit
       → (db : Trees) → (state g new).may_leave db → (u : State) × IsServedTo s u × IsOfficeOrBefore (state g old) db u
-  service_from port count written after ending it =
+  service_from port count written after exit it =
       let was = state g old in
       let is = state g new in
-      service_so stay ends (IsOfficeOrBefore was) (λ db u at. inl at) g old new s clean (desk_rest rests) (unopened_rest one stay empty ends was is s clean rests) port count written after ending it
+      service_so stay ends (IsOfficeOrBefore was) (λ db u at. inl at) g old new s clean (desk_rest rests) (unopened_rest one stay empty ends was is s clean rests) port count written after exit it

@@ -36,8 +36,8 @@ use Rattle.office_commands.proofs.NextStates.{IsEnded, IsOneDatabase, StaySound}
 
 -- so a run ended over a connection
 abbrev EndedSo : {D : Type 0} {g : Ghosts D} → ProgramRun → Held (FileStore D g) → Held (FileStore D g) → Type 0
-EndedSo (ran_command order text written after ending) was last = RunEnds over_files order (Some text) was last written after ending
-EndedSo (ran_service port count written after ending) was last = ServiceEnds over_files port count was last written after ending
+EndedSo (ran_command order text written after exit) was last = RunEnds over_files order (Some text) was last written after exit
+EndedSo (ran_service port count written after exit) was last = ServiceEnds over_files port count was last written after exit
 
 -- ---- files that were not opened
 
@@ -126,17 +126,17 @@ are_databases was last s Is rests leaves db may = elim (leaves db may).2 [
 
 -- files that were not opened are left at the same state
 stays_at : (run : ProgramRun) (s : State) → IsLeftAt run s s
-stays_at (ran_command order text written after ending) s = inl refl
-stays_at (ran_service port count written after ending) s = inl refl
+stays_at (ran_command order text written after exit) s = inl refl
+stays_at (ran_service port count written after exit) s = inl refl
 
 module _ (one : IsOneDatabase) (stay : StaySound) (empty : IsSound empty_state) (ends : IsEnded) {D : Type 0} {g : Ghosts D} where
   -- where a run leaves an office, whatever a crash leaves of its connection
   leaves_so : (run : ProgramRun) (was last : Held (FileStore D g)) (s : State) → RestsAt (file_state was) s → HasCleanDisk (file_state last) → EndedSo run was last
       → (db : Trees) → (file_state last).may_leave db → (u : State) × IsLeftAt run s u × IsOfficeOrBefore (file_state was) db u
-  leaves_so (ran_command order text written after ending) was last s rests clean ended db may =
-      let at = command_from one stay empty ends over_files was last s clean rests order text written after ending ended db may in (at.0, inr at.1, at.2)
-  leaves_so (ran_service port count written after ending) was last s rests clean ended db may =
-      let at = service_from one stay empty ends over_files was last s clean rests port count written after ending ended db may in (at.0, inr at.1, at.2)
+  leaves_so (ran_command order text written after exit) was last s rests clean ended db may =
+      let at = command_from one stay empty ends over_files was last s clean rests order text written after exit ended db may in (at.0, inr at.1, at.2)
+  leaves_so (ran_service port count written after exit) was last s rests clean ended db may =
+      let at = service_from one stay empty ends over_files was last s clean rests port count written after exit ended db may in (at.0, inr at.1, at.2)
 
   module _ (run : ProgramRun) (stage : Stage) (image next : Image) where
     not_opened : (left : FilesLeft D g) → IsUnopenedLeft image left → IsKnownAt stage (remains_left left) → IsFoundNext left next → RunLeads run stage image (stage_after stage (remains_left left)) next
@@ -166,14 +166,14 @@ module _ (one : IsOneDatabase) (stay : StaySound) (empty : IsSound empty_state) 
 
   pub runs_lead : (run : ProgramRun) (stage : Stage) (image next : Image) (left : FilesLeft D g) → WasRun run image left → IsKnownAt stage (remains_left left) → IsFoundNext left next
       → RunLeads run stage image (stage_after stage (remains_left left)) next
-  runs_lead (ran_command order text written after ending) stage image next left (inl none) = ended (ran_command order text written after ending) stage image next left (inl none.1)
-  runs_lead (ran_command order text written after ending) stage image next left (inr over) = ended (ran_command order text written after ending) stage image next left (inr over)
-  runs_lead (ran_service port count written after ending) stage image next left (inl none) = ended (ran_service port count written after ending) stage image next left (inl none.1)
-  runs_lead (ran_service port count written after ending) stage image next left (inr over) = ended (ran_service port count written after ending) stage image next left (inr over)
+  runs_lead (ran_command order text written after exit) stage image next left (inl none) = ended (ran_command order text written after exit) stage image next left (inl none.1)
+  runs_lead (ran_command order text written after exit) stage image next left (inr over) = ended (ran_command order text written after exit) stage image next left (inr over)
+  runs_lead (ran_service port count written after exit) stage image next left (inl none) = ended (ran_service port count written after exit) stage image next left (inl none.1)
+  runs_lead (ran_service port count written after exit) stage image next left (inr over) = ended (ran_service port count written after exit) stage image next left (inr over)
 
   pub killed_lead : (run : ProgramRun) (stage : Stage) (image next : Image) (last : Held (FileStore D g)) → WasKilled run image last → IsLeftKilled last next → RunLeads run stage image stored next
-  killed_lead (ran_command order text written after ending) stage image next last over = killed (ran_command order text written after ending) stage image next last over
-  killed_lead (ran_service port count written after ending) stage image next last over = killed (ran_service port count written after ending) stage image next last over
+  killed_lead (ran_command order text written after exit) stage image next last over = killed (ran_command order text written after exit) stage image next last over
+  killed_lead (ran_service port count written after exit) stage image next last over = killed (ran_service port count written after exit) stage image next last over
 
 -- ---- any number of runs
 

@@ -14,12 +14,12 @@ use Rattle.office_csv.specs.ImportRows.{Fields}
 use Rattle.office_wire.specs.Importing.{ArePrefixRows, AreSomeRows, EndsImport, IsRowStopped}
 use Rattle.office_wire.specs.declared.record_import.ImportStop.{ImportStop}
 use Rattle.office_wire.specs.declared.record_import.ImportStop.TheVariants as import
-use Rattle.office_commands.specs.Importing.{AreImported, ImportsAt, IsRowCut, ending_of_import}
-use Rattle.office_commands.specs.declared.ending.Ending.{Ending}
+use Rattle.office_commands.specs.Importing.{AreImported, ImportsAt, IsRowCut, exit_of_import}
+use Rattle.office_commands.specs.declared.exit.Exit.{Exit}
 
 -- what is imported into the states that are reported in one way is so into those reported in another
-pub imports_of : (Of Others : (State → Type 0) → Type 0) → ((P : State → Type 0) → Of P → Others P) → (day : ℤ) (text : Option (List ℕ)) (new : FileState) (written after : Option (List ℕ)) (e : Ending) → ImportsAt Of day text new written after e → ImportsAt Others day text new written after e
-imports_of Of Others to day text new written after e (done, is, h) = (done, is, to _ h)
+pub imports_of : (AtState AtOther : (State → Type 0) → Type 0) → ((P : State → Type 0) → AtState P → AtOther P) → (day : ℤ) (text : Option (List ℕ)) (new : FileState) (written after : Option (List ℕ)) (e : Exit) → ImportsAt AtState day text new written after e → ImportsAt AtOther day text new written after e
+imports_of AtState AtOther to day text new written after e (done, is, h) = (done, is, to _ h)
 
 row_cut : {S : Type 0} (g : Ghosts S) (day : ℤ) (u : State) (row : Fields) (f : Fault) (desk : DeskState S) → IsRowStopped g day u row f desk → IsRowCut day u row f (state g desk.held)
 row_cut g day u row f desk (inl it) = inl (it.0, it.1.rows)
@@ -40,7 +40,7 @@ module _ {S : Type 0} (g : Ghosts S) (day : ℤ) (text : Option (List ℕ)) (t :
   came (Err import.Io) it = (it.0, it.1, it.2, it.3, it.4, it.5.rows, it.6)
 
 -- an import ends as it was done
-pub imported : {S : Type 0} (g : Ghosts S) (day : ℤ) (text : Option (List ℕ)) (old desk : DeskState S) (written after : Option (List ℕ)) (x : Result ℕ ImportStop) (e : Ending) → e ≡ ending_of_import x
+pub imported : {S : Type 0} (g : Ghosts S) (day : ℤ) (text : Option (List ℕ)) (old desk : DeskState S) (written after : Option (List ℕ)) (x : Result ℕ ImportStop) (e : Exit) → e ≡ exit_of_import x
     → ((t : State) → HasCleanDisk (state g desk.held) → IsAt g t old → EndsImport g day t text x desk written after)
     → ImportsAt (λ P. (t : State) → HasCleanDisk (state g desk.held) → IsAt g t old → P t) day text (state g desk.held) written after e
 imported g day text old desk written after x e is did = (x, is, λ t clean represents. came g day text t desk written after x (did t clean represents))

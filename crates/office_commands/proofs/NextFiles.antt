@@ -23,7 +23,7 @@ use Rattle.office_commands.specs.NextCommand.{HoldsOfficeAt, HoldsWholeOffice, I
 use Rattle.office_life.specs.Tables.{HoldsTables, IsOfficeAt}
 use Rattle.office_life.proofs.LeftTables.{database_of, leaves_tables}
 use Rattle.office_commands.specs.Tables.{SparesTables}
-use Rattle.office_commands.specs.declared.ending.Ending.{Ending}
+use Rattle.office_commands.specs.declared.exit.Exit.{Exit}
 use Rattle.office_commands.specs.declared.office_files.FilesLeft.{FilesLeft}
 use Rattle.office_commands.specs.declared.office_files.FilesLeft.TheVariants as files
 use Rattle.office_commands.proofs.NextService.{service_left}
@@ -85,27 +85,27 @@ module _ {D : Type 0} {g : Ghosts D} (old : Image) (s : State) (Is : State → T
     files_at (files.Unclosed store) closed = unclosed_at store closed
 
 -- each command leaves its files so
-pub command_leaves : IsOneDatabase → StaySound → IsEnded → {D : Type 0} {g : Ghosts D} (image : Image) (s : State) (order : Command) (text : List ℕ) (written after : Option (List ℕ)) (ending : Ending) (left : FilesLeft D g)
-    → HoldsOfficeAt image s → RunsInFiles left image order (Some text) written after ending → LeavesFilesAt image s (IsLeftBy order text written after ending s) left
-command_leaves one stay ends image s order text written after ending left holds (inl none) = unopened_at image s (IsLeftBy order text written after ending s) left none.1
-command_leaves one stay ends image s order text written after ending left holds (inr (last, over, is_left)) =
+pub command_leaves : IsOneDatabase → StaySound → IsEnded → {D : Type 0} {g : Ghosts D} (image : Image) (s : State) (order : Command) (text : List ℕ) (written after : Option (List ℕ)) (exit : Exit) (left : FilesLeft D g)
+    → HoldsOfficeAt image s → RunsInFiles left image order (Some text) written after exit → LeavesFilesAt image s (IsLeftBy order text written after exit s) left
+command_leaves one stay ends image s order text written after exit left holds (inl none) = unopened_at image s (IsLeftBy order text written after exit s) left none.1
+command_leaves one stay ends image s order text written after exit left holds (inr (last, over, is_left)) =
     let ed = holds.office.edition in
     let held : HeldOffice ed image holds.trees = record { held = holds.held; office = holds.office.office } in
-    files_at image s (IsLeftBy order text written after ending s) last
+    files_at image s (IsLeftBy order text written after exit s) last
     (λ clean.
     let was = over.opened.rest clean ed holds.trees held in
-    command_left one stay ends over_files over.was last s clean holds.office.sound ed was.0 (subst (RepresentsRowsIn ed (rows_of s)) (sym was.1) holds.office.rows) order text written after ending over.ends)
+    command_left one stay ends over_files over.was last s clean holds.office.sound ed was.0 (subst (RepresentsRowsIn ed (rows_of s)) (sym was.1) holds.office.rows) order text written after exit over.ends)
     over.stays left is_left
 
 -- and so does a service
-pub service_leaves : IsOneDatabase → StaySound → IsEnded → {D : Type 0} {g : Ghosts D} (image : Image) (s : State) (port count : ℕ) (written after : Option (List ℕ)) (ending : Ending) (left : FilesLeft D g)
-    → HoldsOfficeAt image s → ServesInFiles left image port count written after ending → LeavesFilesAt image s (IsServedTo s) left
-service_leaves one stay ends image s port count written after ending left holds (inl none) = unopened_at image s (IsServedTo s) left none.1
-service_leaves one stay ends image s port count written after ending left holds (inr (last, over, is_left)) =
+pub service_leaves : IsOneDatabase → StaySound → IsEnded → {D : Type 0} {g : Ghosts D} (image : Image) (s : State) (port count : ℕ) (written after : Option (List ℕ)) (exit : Exit) (left : FilesLeft D g)
+    → HoldsOfficeAt image s → ServesInFiles left image port count written after exit → LeavesFilesAt image s (IsServedTo s) left
+service_leaves one stay ends image s port count written after exit left holds (inl none) = unopened_at image s (IsServedTo s) left none.1
+service_leaves one stay ends image s port count written after exit left holds (inr (last, over, is_left)) =
     let ed = holds.office.edition in
     let held : HeldOffice ed image holds.trees = record { held = holds.held; office = holds.office.office } in
     files_at image s (IsServedTo s) last
     (λ clean.
     let was = over.opened.rest clean ed holds.trees held in
-    service_left one stay ends over_files over.was last s clean holds.office.sound ed was.0 (subst (RepresentsRowsIn ed (rows_of s)) (sym was.1) holds.office.rows) port count written after ending over.ends)
+    service_left one stay ends over_files over.was last s clean holds.office.sound ed was.0 (subst (RepresentsRowsIn ed (rows_of s)) (sym was.1) holds.office.rows) port count written after exit over.ends)
     over.stays left is_left

@@ -29,13 +29,13 @@ use Rattle.office_json.specs.Lists.{NoActs, acts_in, bad_act, not_json}
 use Rattle.office_wire.specs.Answering.{AnyAnswer, PerformsActs, Resumes, Serves}
 use Rattle.office_wire.specs.Connections.{Turn, Turns}
 use Rattle.office_wire.specs.Serving.{LeavesServed}
-use Rattle.office_http.specs.Receiving.{Wanted, acts, cut, refused, requested}
+use Rattle.office_http.specs.Receiving.{OfficeRequest, acts, cut, refused, requested}
 use Rattle.office_http.specs.declared.path_request.PathRequest.TheVariants as path
 use Rattle.office_life.specs.Tables.{IsOfficeAt}
 use Rattle.office_commands.specs.NextCommand.{IsServedTo, LeavesAt}
 use Rattle.office_commands.specs.Opening.{IsUnopened}
 use Rattle.office_commands.specs.Serving.{IsDeskOf, ServiceEnds}
-use Rattle.office_commands.specs.declared.ending.Ending.{Ending}
+use Rattle.office_commands.specs.declared.exit.Exit.{Exit}
 use Rattle.office_commands.proofs.NextStates.{IsEnded, IsOneDatabase, StaySound, at_rows, at_stop, at_unopened, well_formed_prefix, found_same, sound_acts, sound_steps}
 use Rattle.office_commands.proofs.Services.{clean_turn, clean_turns}
 
@@ -90,9 +90,9 @@ module _ (stay : StaySound) (ends : IsEnded) (At : Trees → State → Type 0) (
 
   module _ (t : State) (sound : IsSound t) (d : DeskState S) where
     outcome_served : (done : List Act) (o : ActsOutcome) → ActsLead t done o d → ActsCameTo t done o (state g d.held) → ServedAt t d
-    outcome_served done (all_done told) leads it = inl (after_acts t done, (done, it.formed, refl), record { is_open = leads.1; office = leads.0; sound = it.leaves.sound; rows = it.leaves.rows })
-    outcome_served done (stopped told f) leads it =
-        let n = length told in
+    outcome_served done (all_done replies) leads it = inl (after_acts t done, (done, it.formed, refl), record { is_open = leads.1; office = leads.0; sound = it.leaves.sound; rows = it.leaves.rows })
+    outcome_served done (stopped replies f) leads it =
+        let n = length replies in
         let sound_at = λ (k : ℕ). sound_acts stay (take k done) t sound (well_formed_prefix k done it.formed) in
         stop_served t (after_acts t (take n done)) (after_acts t (take (n + 1) done)) (prefix_to n t done it.formed) (prefix_to (n + 1) t done it.formed) (sound_at n) (sound_at (n + 1)) f d leads it.leaves
 
@@ -102,11 +102,11 @@ module _ (stay : StaySound) (ends : IsEnded) (At : Trees → State → Type 0) (
     acts_served (Err (bad_act place why)) it = as_it_was t d it.1
 
     run_served : Resumes AnyAnswer g t d → ServedAt t d
-    run_served (run_closed run, told, it) =
+    run_served (run_closed run, reported, it) =
         let n = suc (length (candidates t.office run)) in
         inl (whole t run, subst (IsServedTo t) (ends t run it.fits) (steps_to n t), it.leads)
-    run_served (none_open, told, it) = as_it_was t d it.leads
-    run_served (run_stopped f, told, it) =
+    run_served (none_open, reported, it) = as_it_was t d it.leads
+    run_served (run_stopped f, reported, it) =
         let n = it.leads.0 in
         stop_served t (after_steps t n) (after_steps t (suc n)) (steps_to n t) (steps_to (suc n) t) (sound_steps stay n t sound) (sound_steps stay (suc n) t sound) f d it.leads.1 it.leads.2
 
@@ -117,26 +117,26 @@ module _ (stay : StaySound) (ends : IsEnded) (At : Trees → State → Type 0) (
     unread_served r fault.Damaged it = as_it_was t d (it.ends.kept (λ e. cc))
     unread_served r fault.Version it = as_it_was t d (it.ends.kept (λ e. cc))
 
-    wanted_served : (it : Wanted) → Serves AnyAnswer g t it d → ServedAt t d
-    wanted_served (refused check) served = as_it_was t d served.1
-    wanted_served cut served = as_it_was t d served.1
-    wanted_served (acts body) served = acts_served (acts_in body) served
-    wanted_served (requested path.Resume) served = run_served served
-    wanted_served (requested (path.Record None)) served = as_it_was t d served.1
-    wanted_served (requested (path.Record (Some r))) served = as_it_was t d served.1
-    wanted_served (requested (path.Content None)) served = as_it_was t d served.1
-    wanted_served (requested (path.Content (Some r))) (Ok content, told, it) = as_it_was t d it.ends.represents
-    wanted_served (requested (path.Content (Some r))) (Err f, told, it) = unread_served r f it
-    wanted_served (requested (path.Due None)) served = as_it_was t d served.1
-    wanted_served (requested (path.Due (Some day))) served = as_it_was t d served.1
-    wanted_served (requested (path.Overdue None count)) served = as_it_was t d served.1
-    wanted_served (requested (path.Overdue (Some day) None)) served = as_it_was t d served.1
-    wanted_served (requested (path.Overdue (Some day) (Some n))) served = as_it_was t d served.1
-    wanted_served (requested (path.Certificate None)) served = as_it_was t d served.1
-    wanted_served (requested (path.Certificate (Some run))) served = as_it_was t d served.1
+    request_served : (it : OfficeRequest) → Serves AnyAnswer g t it d → ServedAt t d
+    request_served (refused check) served = as_it_was t d served.1
+    request_served cut served = as_it_was t d served.1
+    request_served (acts body) served = acts_served (acts_in body) served
+    request_served (requested path.Resume) served = run_served served
+    request_served (requested (path.Record None)) served = as_it_was t d served.1
+    request_served (requested (path.Record (Some r))) served = as_it_was t d served.1
+    request_served (requested (path.Content None)) served = as_it_was t d served.1
+    request_served (requested (path.Content (Some r))) (Ok content, reported, it) = as_it_was t d it.ends.represents
+    request_served (requested (path.Content (Some r))) (Err f, reported, it) = unread_served r f it
+    request_served (requested (path.Due None)) served = as_it_was t d served.1
+    request_served (requested (path.Due (Some day))) served = as_it_was t d served.1
+    request_served (requested (path.Overdue None count)) served = as_it_was t d served.1
+    request_served (requested (path.Overdue (Some day) None)) served = as_it_was t d served.1
+    request_served (requested (path.Overdue (Some day) (Some n))) served = as_it_was t d served.1
+    request_served (requested (path.Certificate None)) served = as_it_was t d served.1
+    request_served (requested (path.Certificate (Some run))) served = as_it_was t d served.1
 
     left_served : LeavesServed g t d → ServedAt t d
-    left_served (it, served) = wanted_served it served
+    left_served (it, served) = request_served it served
 
   module _ (s : State) where
     after_served : (t : State) (d : DeskState S) → IsServedTo s t → ServedAt t d → ServedAt s d
@@ -170,13 +170,13 @@ module _ (stay : StaySound) (ends : IsEnded) (At : Trees → State → Type 0) (
   closed_so : (last : DeskState S) → new ≡ last.held → served last → LeftServed stay ends At office g s new
   closed_so last same at = subst (LeftServed stay ends At office g s) (sym same) (left_at stay ends At office g s last at)
 
-  pub service_so : (port count : ℕ) (written after : Option (List ℕ)) (ending : Ending) → ServiceEnds g port count old new written after ending → LeftServed stay ends At office g s new
-  service_so port count written after ending (inl none) = λ db may. (s, ([], tt, refl), at_unopened none.0 none.2 db may)
-  service_so port count written after ending (inr (first, last, of, inl it, same)) =
+  pub service_so : (port count : ℕ) (written after : Option (List ℕ)) (exit : Exit) → ServiceEnds g port count old new written after exit → LeftServed stay ends At office g s new
+  service_so port count written after exit (inl none) = λ db may. (s, ([], tt, refl), at_unopened none.0 none.2 db may)
+  service_so port count written after exit (inr (first, last, of, inl it, same)) =
       let clean_last : HasCleanDisk (state g last.held) = subst (λ (h : Held S). HasCleanDisk (state g h)) same clean in
       let at = desk_at first (subst (λ (d : DeskState S). HasCleanDisk (state g d.held)) it.1 clean_last) of in
       closed_so last same (subst (λ (d : DeskState S). served d) (sym it.1) (as_it_was stay ends At office g s first at))
-  service_so port count written after ending (inr (first, last, of, inr (n, failed, ended, reported, turns, few, all, is), same)) =
+  service_so port count written after exit (inr (first, last, of, inr (n, failed, ended, reported, turns, few, all, is), same)) =
       let clean_last : HasCleanDisk (state g last.held) = subst (λ (h : Held S). HasCleanDisk (state g h)) same clean in
       let at = desk_at first (clean_turns g n failed ended first last turns clean_last) of in
       closed_so last same (turns_served stay ends At office g s n failed ended first last turns clean_last (as_it_was stay ends At office g s first at))
@@ -188,7 +188,7 @@ module _ (one : IsOneDatabase) (stay : StaySound) (ends : IsEnded) {S : Type 0} 
       let m = of.opened.found ed clean_desk rest in
       subst (λ (t : State). IsAt g t desk) (found_same one stay ends (state g old) (state g new) s clean sound ed m.0 rows m.1) m.2
 
-  pub service_left : (ed : Edition) → IsAtRestOver ed (state g old) → RepresentsRowsIn ed (rows_of s) (state g old).now.trees → (port count : ℕ) (written after : Option (List ℕ)) (ending : Ending) → ServiceEnds g port count old new written after ending
+  pub service_left : (ed : Edition) → IsAtRestOver ed (state g old) → RepresentsRowsIn ed (rows_of s) (state g old).now.trees → (port count : ℕ) (written after : Option (List ℕ)) (exit : Exit) → ServiceEnds g port count old new written after exit
       → LeavesAt (IsServedTo s) (state g new)
-  service_left ed rest rows port count written after ending it =
-      service_so stay ends IsOfficeAt (λ db u at. at) g old new s clean (desk_at ed rest rows) (λ f unopened. at_unopened one stay ends (state g old) (state g new) s clean sound ed f rest rows unopened) port count written after ending it
+  service_left ed rest rows port count written after exit it =
+      service_so stay ends IsOfficeAt (λ db u at. at) g old new s clean (desk_at ed rest rows) (λ f unopened. at_unopened one stay ends (state g old) (state g new) s clean sound ed f rest rows unopened) port count written after exit it

@@ -45,15 +45,15 @@ use Rattle.office_commands.specs.Certifying.{CertificateEnds}
 use Rattle.office_commands.specs.Exporting.{ExportEnds}
 use Rattle.office_wire.specs.declared.record_import.ImportStop.{ImportStop}
 use Rattle.office_wire.specs.declared.record_import.ImportStop.TheVariants as import
-use Rattle.office_commands.specs.Importing.{AreImported, ImportsAt, IsRowCut, ending_of_import}
+use Rattle.office_commands.specs.Importing.{AreImported, ImportsAt, IsRowCut, exit_of_import}
 use Rattle.office_life.specs.Tables.{IsOfficeAt}
 use Rattle.office_commands.specs.NextCommand.{AreActsDone, AreRowsAdded, AreStepsTaken, AreWritten, IsLeftBy, IsUntouched, LeavesAt}
 use Rattle.office_commands.specs.Opening.{FromOpened, IsNotOpened, IsOpened, IsRestKept, IsUnopened}
 use Rattle.office_commands.specs.Resuming.{ResumeEnds, Resumes}
 use Rattle.office_commands.specs.Making.{InitEnds}
 use Rattle.office_commands.specs.Running.{RunEnds}
-use Rattle.office_commands.specs.declared.ending.Ending.{Ending}
-use Rattle.office_commands.specs.declared.ending.Ending.TheVariants as how
+use Rattle.office_commands.specs.declared.exit.Exit.{Exit}
+use Rattle.office_commands.specs.declared.exit.Exit.TheVariants as how
 
 -- ---- what the laws say
 
@@ -159,37 +159,37 @@ module _ (stay : StaySound) (ends : IsEnded) (At : Trees → State → Type 0) (
   untouched : (Is : State → Type 0) (written after : Option (List ℕ)) → (IsUntouched written after s s → Is s) → after ≡ written → ((db : Trees) → new.may_leave db → At db s) → LeavesSo Is
   untouched Is written after is same at db may = (s, is (refl, same), at db may)
 
-  not_opened : (written after : Option (List ℕ)) (ending : Ending) → IsNotOpened old new written after ending → ((db : Trees) → new.may_leave db → At db s) × (after ≡ written)
-  not_opened written after ending it = (at_unopened it.0 it.2, it.3)
+  not_opened : (written after : Option (List ℕ)) (exit : Exit) → IsNotOpened old new written after exit → ((db : Trees) → new.may_leave db → At db s) × (after ≡ written)
+  not_opened written after exit it = (at_unopened it.0 it.2, it.3)
 
   opened_left : IsOpened old new → LeavesSo (λ u. u ≡ s)
   opened_left it = same_left (has_rows s sound (of_opened (λ t. HoldsRows (rows_of t) new) it.opened))
 
   -- ---- init
 
-  init_left : (written after : Option (List ℕ)) (ending : Ending) → InitEnds old new written after ending → LeavesSo (λ u. u ≡ s)
-  init_left written after ending (inl none) = same_left (not_opened written after ending none).0
-  init_left written after ending (inr done) = opened_left done.0
+  init_left : (written after : Option (List ℕ)) (exit : Exit) → InitEnds old new written after exit → LeavesSo (λ u. u ≡ s)
+  init_left written after exit (inl none) = same_left (not_opened written after exit none).0
+  init_left written after exit (inr done) = opened_left done.0
 
   -- ---- the readings
 
-  export_left : (it : Register) (written after : Option (List ℕ)) (ending : Ending) → ExportEnds it old new written after ending → LeavesSo (λ u. u ≡ s)
-  export_left it written after ending (inl none) = same_left (not_opened written after ending none).0
-  export_left it written after ending (inr done) = opened_left done.0
+  export_left : (it : Register) (written after : Option (List ℕ)) (exit : Exit) → ExportEnds it old new written after exit → LeavesSo (λ u. u ≡ s)
+  export_left it written after exit (inl none) = same_left (not_opened written after exit none).0
+  export_left it written after exit (inr done) = opened_left done.0
 
-  certificate_left : (run : ℕ) (written after : Option (List ℕ)) (ending : Ending) → CertificateEnds run old new written after ending → LeavesSo (λ u. u ≡ s)
-  certificate_left run written after ending (inl none) = same_left (not_opened written after ending none).0
-  certificate_left run written after ending (inr done) = opened_left done.0
+  certificate_left : (run : ℕ) (written after : Option (List ℕ)) (exit : Exit) → CertificateEnds run old new written after exit → LeavesSo (λ u. u ≡ s)
+  certificate_left run written after exit (inl none) = same_left (not_opened written after exit none).0
+  certificate_left run written after exit (inr done) = opened_left done.0
 
   -- ---- apply
 
   module _ (text : List ℕ) (written after : Option (List ℕ)) where
-    abbrev ActsLeft : Ending → State → Type 0
-    ActsLeft ending u = IsUntouched written after s u ⊎ AreActsDone text written after ending s u
+    abbrev ActsLeft : Exit → State → Type 0
+    ActsLeft exit u = IsUntouched written after s u ⊎ AreActsDone text written after exit s u
 
     module _ (acts : List Act) (read : acts_in text ≡ Ok acts) where
-      came_left : (ending : Ending) (o : ActsOutcome) → ActsCameTo s acts o new → AreWritten (answer_lines (answers s (answered_acts acts o))) written after ending → LeavesSo (ActsLeft ending)
-      came_left ending (all_done told) it reported db may =
+      came_left : (exit : Exit) (o : ActsOutcome) → ActsCameTo s acts o new → AreWritten (answer_lines (answers s (answered_acts acts o))) written after exit → LeavesSo (ActsLeft exit)
+      came_left exit (all_done replies) it reported db may =
           let all : acts ≡ take (length acts) acts = sym (take-length acts) in (
             after_acts s acts,
             inr (record {
@@ -197,13 +197,13 @@ module _ (stay : StaySound) (ends : IsEnded) (At : Trees → State → Type 0) (
               read = read;
               count = length acts;
               within = omega arith;
-              answered = subst (λ (xs : List Act). AreWritten (answer_lines (answers s xs)) written after ending) all reported;
+              answered = subst (λ (xs : List Act). AreWritten (answer_lines (answers s xs)) written after exit) all reported;
               state = inl (ap (after_acts s) all);
             }),
             has_rows (after_acts s acts) it.leaves.sound it.leaves.rows db may,
           )
-      came_left ending (stopped told f) it reported db may =
-          let n = length told in
+      came_left exit (stopped replies f) it reported db may =
+          let n = length replies in
           let v = after_acts s (take n acts) in
           let w = after_acts s (take (n + 1) acts) in
           let sound_at = λ (k : ℕ). sound_acts stay (take k acts) s sound (well_formed_prefix k acts it.formed) in
@@ -212,28 +212,28 @@ module _ (stay : StaySound) (ends : IsEnded) (At : Trees → State → Type 0) (
             | inr next ↦ (w, inr (record { acts = acts; read = read; count = n; within = it.fits.0; answered = reported; state = inr refl }), next)
           ]
 
-      performs_left : (ending : Ending) → Performs (FromOpened old new) acts new written after ending → LeavesSo (ActsLeft ending)
-      performs_left ending it =
+      performs_left : (exit : Exit) → Performs (FromOpened old new) acts new written after exit → LeavesSo (ActsLeft exit)
+      performs_left exit it =
           let came = of_opened (λ t. ActsCameTo t acts it.outcome new) it.came in
-          came_left ending it.outcome came (elim it.reported [
+          came_left exit it.outcome came (elim it.reported [
             | inl all ↦ inl (subst (λ (xs : List Answer). Appends written after (answer_lines xs)) came.answered all.0)
             | inr some ↦ inr (some.1, subst (λ (xs : List Answer). AppendsSome written after (answer_lines xs)) came.answered some.0)
           ])
 
-    applies_left : (ending : Ending) → IsNotOpened old new written after ending ⊎ IsRestKept old new × Applies (FromOpened old new) text new written after ending → LeavesSo (ActsLeft ending)
-    applies_left ending (inl none) = let it = not_opened written after ending none in untouched (ActsLeft ending) written after inl it.1 it.0
-    applies_left ending (inr (kept, inl unread)) = untouched (ActsLeft ending) written after inl unread.2 (has_rows s sound (of_opened (λ t. HoldsRows (rows_of t) new) unread.1))
-    applies_left ending (inr (kept, inr it)) = performs_left it.0 it.1 ending it.2
+    applies_left : (exit : Exit) → IsNotOpened old new written after exit ⊎ IsRestKept old new × Applies (FromOpened old new) text new written after exit → LeavesSo (ActsLeft exit)
+    applies_left exit (inl none) = let it = not_opened written after exit none in untouched (ActsLeft exit) written after inl it.1 it.0
+    applies_left exit (inr (kept, inl unread)) = untouched (ActsLeft exit) written after inl unread.2 (has_rows s sound (of_opened (λ t. HoldsRows (rows_of t) new) unread.1))
+    applies_left exit (inr (kept, inr it)) = performs_left it.0 it.1 exit it.2
 
   -- ---- import
 
   module _ (day : ℤ) (text written after : Option (List ℕ)) where
-    abbrev RowsLeft : Ending → State → Type 0
-    RowsLeft ending u = IsUntouched written after s u ⊎ AreRowsAdded day text written after ending s u
+    abbrev RowsLeft : Exit → State → Type 0
+    RowsLeft exit u = IsUntouched written after s u ⊎ AreRowsAdded day text written after exit s u
 
     -- rows were added, and no more
-    added : (ending : Ending) (fs : List Fields) (reported : List Answer) (u : State) → ArePrefixRows text fs → AreRowsDone day s fs reported u → Appends written after (lines_from 0 reported) ⊎ (ending ≡ how.File) × AreLinesOut reported written after → HoldsRows (rows_of u) new → LeavesSo (RowsLeft ending)
-    added ending fs reported u prefix done lines holds db may = (
+    added : (exit : Exit) (fs : List Fields) (reported : List Answer) (u : State) → ArePrefixRows text fs → AreRowsDone day s fs reported u → Appends written after (lines_from 0 reported) ⊎ (exit ≡ how.File) × AreLinesOut reported written after → HoldsRows (rows_of u) new → LeavesSo (RowsLeft exit)
+    added exit fs reported u prefix done lines holds db may = (
       u,
       inr (record {
         rows = fs;
@@ -247,8 +247,8 @@ module _ (stay : StaySound) (ends : IsEnded) (At : Trees → State → Type 0) (
       has_rows u (sound_rows stay day s u fs reported done sound) holds db may,
     )
 
-    cut_row : (ending : Ending) (fs : List Fields) (reported : List Answer) (u : State) (row : Fields) (f : Fault) → AreSomeRows text (fs ++ row ∷ []) → AreRowsDone day s fs reported u → Appends written after (lines_from 0 reported) → IsRowCut day u row f new → LeavesSo (RowsLeft ending)
-    cut_row ending fs reported u row f some done lines (inl it) db may = (
+    cut_row : (exit : Exit) (fs : List Fields) (reported : List Answer) (u : State) (row : Fields) (f : Fault) → AreSomeRows text (fs ++ row ∷ []) → AreRowsDone day s fs reported u → Appends written after (lines_from 0 reported) → IsRowCut day u row f new → LeavesSo (RowsLeft exit)
+    cut_row exit fs reported u row f some done lines (inl it) db may = (
       u,
       inr (record {
         rows = fs;
@@ -261,7 +261,7 @@ module _ (stay : StaySound) (ends : IsEnded) (At : Trees → State → Type 0) (
       }),
       has_rows u (sound_rows stay day s u fs reported done sound) it.1 db may,
     )
-    cut_row ending fs reported u row f some done lines (inr (a, is, formed, left)) db may =
+    cut_row exit fs reported u row f some done lines (inr (a, is, formed, left)) db may =
         let sound_u = sound_rows stay day s u fs reported done sound in
         elim (has_stopped u (step u a).1 f sound_u (stay u a sound_u formed) left db may) [
           | inl here ↦ (
@@ -292,22 +292,22 @@ module _ (stay : StaySound) (ends : IsEnded) (At : Trees → State → Type 0) (
           )
         ]
 
-    imports_left : (ending : Ending) (done : Result ℕ ImportStop) → ending ≡ ending_of_import done → AreImported day text done new written after s → LeavesSo (RowsLeft ending)
-    imports_left ending (Ok refused) is (fs, reported, u, (r, left, first, ended), it, none) = added ending fs reported u (inr (r, left, first)) it.done (inl it.reported) it.saved
-    imports_left ending (Err import.Header) is it = untouched (RowsLeft ending) written after inl it.2 (has_rows s sound it.1)
-    imports_left ending (Err (import.Row number)) is (fs, reported, u, (r, left, first, bad), it, at) = added ending fs reported u (inr (r, left, first)) it.done (inl it.reported) it.saved
-    imports_left ending (Err (import.Fault f)) is (fs, reported, u, done, lines, inl it) = added ending fs reported u it.1 done (inl lines) it.2
-    imports_left ending (Err (import.Fault f)) is (fs, reported, u, done, lines, inr it) = cut_row ending fs reported u it.0 f it.1 done lines it.2
-    imports_left ending (Err import.Io) is (fs, reported, u, prefix, done, holds, out) = added ending fs reported u prefix done (inr (is, out)) holds
+    imports_left : (exit : Exit) (done : Result ℕ ImportStop) → exit ≡ exit_of_import done → AreImported day text done new written after s → LeavesSo (RowsLeft exit)
+    imports_left exit (Ok refused) is (fs, reported, u, (r, left, first, ended), it, none) = added exit fs reported u (inr (r, left, first)) it.done (inl it.reported) it.saved
+    imports_left exit (Err import.Header) is it = untouched (RowsLeft exit) written after inl it.2 (has_rows s sound it.1)
+    imports_left exit (Err (import.Row number)) is (fs, reported, u, (r, left, first, bad), it, at) = added exit fs reported u (inr (r, left, first)) it.done (inl it.reported) it.saved
+    imports_left exit (Err (import.Fault f)) is (fs, reported, u, done, lines, inl it) = added exit fs reported u it.1 done (inl lines) it.2
+    imports_left exit (Err (import.Fault f)) is (fs, reported, u, done, lines, inr it) = cut_row exit fs reported u it.0 f it.1 done lines it.2
+    imports_left exit (Err import.Io) is (fs, reported, u, prefix, done, holds, out) = added exit fs reported u prefix done (inr (is, out)) holds
 
-    import_left : (ending : Ending) → IsNotOpened old new written after ending ⊎ ImportsAt (FromOpened old new) day text new written after ending → LeavesSo (RowsLeft ending)
-    import_left ending (inl none) = let it = not_opened written after ending none in untouched (RowsLeft ending) written after inl it.1 it.0
-    import_left ending (inr (done, is, it)) = imports_left ending done is (of_opened (AreImported day text done new written after) it)
+    import_left : (exit : Exit) → IsNotOpened old new written after exit ⊎ ImportsAt (FromOpened old new) day text new written after exit → LeavesSo (RowsLeft exit)
+    import_left exit (inl none) = let it = not_opened written after exit none in untouched (RowsLeft exit) written after inl it.1 it.0
+    import_left exit (inr (done, is, it)) = imports_left exit done is (of_opened (AreImported day text done new written after) it)
 
   -- ---- resume
 
-  whole_left : (ending : Ending) (run : ℕ) → open_run s.office ≡ Some run → HoldsRows (rows_of (whole s run)) new → LeavesSo (AreStepsTaken ending s)
-  whole_left ending run is_open holds db may =
+  whole_left : (exit : Exit) (run : ℕ) → open_run s.office ≡ Some run → HoldsRows (rows_of (whole s run)) new → LeavesSo (AreStepsTaken exit s)
+  whole_left exit run is_open holds db may =
       let n = suc (length (candidates s.office run)) in
       let is : whole s run ≡ after_steps s n = sym (ends s run is_open) in (
         whole s run,
@@ -315,25 +315,25 @@ module _ (stay : StaySound) (ends : IsEnded) (At : Trees → State → Type 0) (
         has_rows (whole s run) (subst IsSound (sym is) (sound_steps stay n s sound)) holds db may,
       )
 
-  none_taken : (ending : Ending) → (ending ≡ how.Done → ⊥) → ((db : Trees) → new.may_leave db → At db s) → LeavesSo (AreStepsTaken ending s)
-  none_taken ending other at db may = (s, record { count = 0; state = refl; closed = λ done. absurd (other done) }, at db may)
+  none_taken : (exit : Exit) → (exit ≡ how.Done → ⊥) → ((db : Trees) → new.may_leave db → At db s) → LeavesSo (AreStepsTaken exit s)
+  none_taken exit other at db may = (s, record { count = 0; state = refl; closed = λ done. absurd (other done) }, at db may)
 
-  resumes_left : (written after : Option (List ℕ)) (ending : Ending) → Resumes (FromOpened old new) new written after ending → LeavesSo (AreStepsTaken ending s)
-  resumes_left written after ending (run_closed run, it, reported) = let at = of_opened (RunLeft (run_closed run) new) it in whole_left ending run at.fits at.leaves
-  resumes_left written after ending (none_open, it, reported) =
-      none_taken ending (λ done. let other : how.Refused refused.NoRun ≡ how.Done = sym reported.0 ∙ done in cc) (has_rows s sound (of_opened (RunLeft none_open new) it).leaves)
-  resumes_left written after ending (run_stopped f, it, reported) =
+  resumes_left : (written after : Option (List ℕ)) (exit : Exit) → Resumes (FromOpened old new) new written after exit → LeavesSo (AreStepsTaken exit s)
+  resumes_left written after exit (run_closed run, it, reported) = let at = of_opened (RunLeft (run_closed run) new) it in whole_left exit run at.fits at.leaves
+  resumes_left written after exit (none_open, it, reported) =
+      none_taken exit (λ done. let other : how.Refused refused.NoRun ≡ how.Done = sym reported.0 ∙ done in cc) (has_rows s sound (of_opened (RunLeft none_open new) it).leaves)
+  resumes_left written after exit (run_stopped f, it, reported) =
       let at = of_opened (RunLeft (run_stopped f) new) it in
       let n = at.leaves.0 in
-      let not_done : ending ≡ how.Done → ⊥ = λ done. let other : how.Fault f ≡ how.Done = sym reported.0 ∙ done in cc in
+      let not_done : exit ≡ how.Done → ⊥ = λ done. let other : how.Fault f ≡ how.Done = sym reported.0 ∙ done in cc in
       λ db may. elim (has_stopped (after_steps s n) (after_steps s (suc n)) f (sound_steps stay n s sound) (sound_steps stay (suc n) s sound) at.leaves.1 db may) [
         | inl here ↦ (after_steps s n, record { count = n; state = refl; closed = λ done. absurd (not_done done) }, here)
         | inr next ↦ (after_steps s (suc n), record { count = suc n; state = refl; closed = λ done. absurd (not_done done) }, next)
       ]
 
-  resume_left : (written after : Option (List ℕ)) (ending : Ending) → ResumeEnds old new written after ending → LeavesSo (AreStepsTaken ending s)
-  resume_left written after ending (inl none) = none_taken ending (λ done. let other : how.Fault none.0 ≡ how.Done = sym none.1 ∙ done in cc) (not_opened written after ending none).0
-  resume_left written after ending (inr it) = resumes_left written after ending it.1
+  resume_left : (written after : Option (List ℕ)) (exit : Exit) → ResumeEnds old new written after exit → LeavesSo (AreStepsTaken exit s)
+  resume_left written after exit (inl none) = none_taken exit (λ done. let other : how.Fault none.0 ≡ how.Done = sym none.1 ∙ done in cc) (not_opened written after exit none).0
+  resume_left written after exit (inr it) = resumes_left written after exit it.1
 
 -- ---- each command
 
@@ -348,25 +348,25 @@ module _ (stay : StaySound) (ends : IsEnded) (At : Trees → State → Type 0) (
   same_held : (Is : State → Type 0) → Is s → new ≡ old → LeftSo Is new
   same_held Is is same = subst (LeftSo Is) (sym same) (λ db may. (s, is, before db may))
 
-  pub command_so : (order : Command) (text : List ℕ) (written after : Option (List ℕ)) (ending : Ending) → RunEnds g order (Some text) old new written after ending → LeftSo (IsLeftBy order text written after ending s) new
-  command_so command.nothing text written after ending it = same_held (λ u. u ≡ s) refl it.1
-  command_so (command.due unit count offset day) text written after ending it = same_held (λ u. u ≡ s) refl it.1
-  command_so (command.plan file) text written after ending it = same_held (λ u. u ≡ s) refl it.1
-  command_so (command.serve file port count) text written after ending it = same_held (λ u. u ≡ s) refl it.1
-  command_so (command.init file) text written after ending it = init_left stay ends At office (state g old) (state g new) s sound of_opened at_unopened written after ending it
-  command_so (command.apply file acts) text written after ending (inl none) = same_held (IsLeftBy (command.apply file acts) text written after ending s) (inl (refl, none.2)) none.1
-  command_so (command.apply file acts) text written after ending (inr it) = applies_left stay ends At office (state g old) (state g new) s sound of_opened at_unopened text written after ending it
-  command_so (command.import file day csv) text written after ending it = import_left stay ends At office (state g old) (state g new) s sound of_opened at_unopened day (option_map strip_bom (Some text)) written after ending it
-  command_so (command.overdue file day n) text written after ending it = export_left stay ends At office (state g old) (state g new) s sound of_opened at_unopened (register.Overdue day n) written after ending it
-  command_so (command.export file register) text written after ending it = export_left stay ends At office (state g old) (state g new) s sound of_opened at_unopened register written after ending it
-  command_so (command.resume file) text written after ending it = resume_left stay ends At office (state g old) (state g new) s sound of_opened at_unopened written after ending it
-  command_so (command.certificate file run) text written after ending it = certificate_left stay ends At office (state g old) (state g new) s sound of_opened at_unopened run written after ending it
+  pub command_so : (order : Command) (text : List ℕ) (written after : Option (List ℕ)) (exit : Exit) → RunEnds g order (Some text) old new written after exit → LeftSo (IsLeftBy order text written after exit s) new
+  command_so command.nothing text written after exit it = same_held (λ u. u ≡ s) refl it.1
+  command_so (command.due unit count offset day) text written after exit it = same_held (λ u. u ≡ s) refl it.1
+  command_so (command.plan file) text written after exit it = same_held (λ u. u ≡ s) refl it.1
+  command_so (command.serve file port count) text written after exit it = same_held (λ u. u ≡ s) refl it.1
+  command_so (command.init file) text written after exit it = init_left stay ends At office (state g old) (state g new) s sound of_opened at_unopened written after exit it
+  command_so (command.apply file acts) text written after exit (inl none) = same_held (IsLeftBy (command.apply file acts) text written after exit s) (inl (refl, none.2)) none.1
+  command_so (command.apply file acts) text written after exit (inr it) = applies_left stay ends At office (state g old) (state g new) s sound of_opened at_unopened text written after exit it
+  command_so (command.import file day csv) text written after exit it = import_left stay ends At office (state g old) (state g new) s sound of_opened at_unopened day (option_map strip_bom (Some text)) written after exit it
+  command_so (command.overdue file day n) text written after exit it = export_left stay ends At office (state g old) (state g new) s sound of_opened at_unopened (register.Overdue day n) written after exit it
+  command_so (command.export file register) text written after exit it = export_left stay ends At office (state g old) (state g new) s sound of_opened at_unopened register written after exit it
+  command_so (command.resume file) text written after exit it = resume_left stay ends At office (state g old) (state g new) s sound of_opened at_unopened written after exit it
+  command_so (command.certificate file run) text written after exit it = certificate_left stay ends At office (state g old) (state g new) s sound of_opened at_unopened run written after exit it
 
 -- over an office at rest
 pub command_left : IsOneDatabase → StaySound → IsEnded → {S : Type 0} (g : Ghosts S) (old new : Held S) (s : State) → HasCleanDisk (state g new) → IsSound s → (ed : Edition) → IsAtRestOver ed (state g old) → RepresentsRowsIn ed (rows_of s) (state g old).now.trees
-    → (order : Command) (text : List ℕ) (written after : Option (List ℕ)) (ending : Ending) → RunEnds g order (Some text) old new written after ending → LeavesAt (IsLeftBy order text written after ending s) (state g new)
-command_left one stay ends g old new s clean sound ed rest rows order text written after ending it =
+    → (order : Command) (text : List ℕ) (written after : Option (List ℕ)) (exit : Exit) → RunEnds g order (Some text) old new written after exit → LeavesAt (IsLeftBy order text written after exit s) (state g new)
+command_left one stay ends g old new s clean sound ed rest rows order text written after exit it =
     let was = state g old in
     let is = state g new in
     command_so stay ends IsOfficeAt (λ db u at. at) g old new s sound (λ P opened. of_opened one stay ends was is s clean sound ed P rest rows opened) (at_before one stay ends was is s clean sound ed rest rows)
-    (λ f unopened. at_unopened one stay ends was is s clean sound ed f rest rows unopened) order text written after ending it
+    (λ f unopened. at_unopened one stay ends was is s clean sound ed f rest rows unopened) order text written after exit it

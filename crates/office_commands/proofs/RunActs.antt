@@ -15,7 +15,7 @@ use Rattle.office_command_line.specs.Orders as command
 use Rattle.office_command_line.specs.Orders.{Command}
 use Rattle.office_commands.specs.FileHistory.{IsLeftAt, ProgramRun, ReportsContents, StateHistory, led, ran_command, ran_service, stayed}
 use Rattle.office_commands.specs.NextCommand.{IsLeftBy}
-use Rattle.office_commands.specs.declared.ending.Ending.{Ending}
+use Rattle.office_commands.specs.declared.exit.Exit.{Exit}
 
 -- acts lead there
 abbrev LeadsTo : State → State → Type 0
@@ -39,28 +39,28 @@ rows_to day s t (row ∷ rows) answers (answer, rest, m, reported, one, all) = f
 
 -- ---- one run
 
-order_to : (order : Command) (text : List ℕ) (written after : Option (List ℕ)) (ending : Ending) (s u : State) → IsLeftBy order text written after ending s u → LeadsTo s u
-order_to (command.apply file acts) text written after ending s u (inl none) = none_to s u none.0
-order_to (command.apply file acts) text written after ending s u (inr it) = elim it.state [ inl is ↦ (take it.count it.acts, is) | inr is ↦ (take (it.count + 1) it.acts, is) ]
-order_to (command.import file day csv) text written after ending s u (inl none) = none_to s u none.0
-order_to (command.import file day csv) text written after ending s u (inr it) =
+order_to : (order : Command) (text : List ℕ) (written after : Option (List ℕ)) (exit : Exit) (s u : State) → IsLeftBy order text written after exit s u → LeadsTo s u
+order_to (command.apply file acts) text written after exit s u (inl none) = none_to s u none.0
+order_to (command.apply file acts) text written after exit s u (inr it) = elim it.state [ inl is ↦ (take it.count it.acts, is) | inr is ↦ (take (it.count + 1) it.acts, is) ]
+order_to (command.import file day csv) text written after exit s u (inl none) = none_to s u none.0
+order_to (command.import file day csv) text written after exit s u (inr it) =
     let reached = rows_to day s it.reached it.rows it.answers it.done in
     elim it.state [ inl is ↦ subst (LeadsTo s) (sym is) reached | inr more ↦ further s it.reached u reached (row_to it.reached u more.1 (parsed_row day more.0) more.2) ]
-order_to (command.resume file) text written after ending s u it = (run_steps it.count, it.state ∙ sym (after_run it.count s))
-order_to (command.init file) text written after ending s u same = none_to s u same
-order_to (command.export file register) text written after ending s u same = none_to s u same
-order_to (command.overdue file day n) text written after ending s u same = none_to s u same
-order_to (command.certificate file run) text written after ending s u same = none_to s u same
-order_to (command.serve file port count) text written after ending s u same = none_to s u same
-order_to (command.plan file) text written after ending s u same = none_to s u same
-order_to (command.due unit count offset day) text written after ending s u same = none_to s u same
-order_to command.nothing text written after ending s u same = none_to s u same
+order_to (command.resume file) text written after exit s u it = (run_steps it.count, it.state ∙ sym (after_run it.count s))
+order_to (command.init file) text written after exit s u same = none_to s u same
+order_to (command.export file register) text written after exit s u same = none_to s u same
+order_to (command.overdue file day n) text written after exit s u same = none_to s u same
+order_to (command.certificate file run) text written after exit s u same = none_to s u same
+order_to (command.serve file port count) text written after exit s u same = none_to s u same
+order_to (command.plan file) text written after exit s u same = none_to s u same
+order_to (command.due unit count offset day) text written after exit s u same = none_to s u same
+order_to command.nothing text written after exit s u same = none_to s u same
 
 run_to : (run : ProgramRun) (s u : State) → IsLeftAt run s u → LeadsTo s u
-run_to (ran_command order text written after ending) s u (inl same) = none_to s u same
-run_to (ran_command order text written after ending) s u (inr it) = order_to order text written after ending s u it
-run_to (ran_service port count written after ending) s u (inl same) = none_to s u same
-run_to (ran_service port count written after ending) s u (inr it) = (it.0, it.2)
+run_to (ran_command order text written after exit) s u (inl same) = none_to s u same
+run_to (ran_command order text written after exit) s u (inr it) = order_to order text written after exit s u it
+run_to (ran_service port count written after exit) s u (inl same) = none_to s u same
+run_to (ran_service port count written after exit) s u (inr it) = (it.0, it.2)
 
 -- ---- any number of runs
 

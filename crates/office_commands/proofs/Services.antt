@@ -8,7 +8,7 @@ use Rattle.office_desk.specs.Desk.{DeskState}
 use Rattle.office_desk.specs.Opening.{Opens}
 use Rattle.office_wire.specs.Connections.{Turn, Turns}
 use Rattle.office_commands.specs.Serving.{IsDeskOf, ServesAt}
-use Rattle.office_commands.specs.declared.ending.Ending.{Ending}
+use Rattle.office_commands.specs.declared.exit.Exit.{Exit}
 use Rattle.office_commands.proofs.Desks.{desk_at}
 
 -- a desk that was opened over a connection is the one of it that a service has
@@ -25,7 +25,7 @@ clean_turns g zero failed ended old new turns clean = subst (λ (d : DeskState _
 clean_turns g (suc n) failed ended old new (m, earlier, status, turns, turn, ends, is) clean =
     clean_turns g n earlier false old m turns (clean_turn g status m new turn clean)
 
-pub clean_served : {S : Type 0} (g : Ghosts S) (port count : ℕ) (old new : DeskState S) (written after : Option (List ℕ)) (e : Ending) → ServesAt g port count old new written after e → HasCleanDisk (state g new.held) → HasCleanDisk (state g old.held)
+pub clean_served : {S : Type 0} (g : Ghosts S) (port count : ℕ) (old new : DeskState S) (written after : Option (List ℕ)) (e : Exit) → ServesAt g port count old new written after e → HasCleanDisk (state g new.held) → HasCleanDisk (state g old.held)
 clean_served g port count old new written after e (inl it) clean = subst (λ (d : DeskState _). HasCleanDisk (state g d.held)) it.1 clean
 clean_served g port count old new written after e (inr (n, failed, ended, reported, turns, few, all, is)) clean = clean_turns g n failed ended old new turns clean
 
@@ -39,6 +39,6 @@ shield_turns g zero failed ended old new turns shielded = subst (λ (d : DeskSta
 shield_turns g (suc n) failed ended old new (m, earlier, status, turns, turn, ends, is) shielded =
     shield_turn g status m new turn (shield_turns g n earlier false old m turns shielded)
 
-pub shield_served : {S : Type 0} (g : Ghosts S) (port count : ℕ) (old new : DeskState S) (written after : Option (List ℕ)) (e : Ending) → ServesAt g port count old new written after e → (state g old.held).IsShielded → (state g new.held).IsShielded
+pub shield_served : {S : Type 0} (g : Ghosts S) (port count : ℕ) (old new : DeskState S) (written after : Option (List ℕ)) (e : Exit) → ServesAt g port count old new written after e → (state g old.held).IsShielded → (state g new.held).IsShielded
 shield_served g port count old new written after e (inl it) shielded = subst (λ (d : DeskState _). (state g d.held).IsShielded) (sym it.1) shielded
 shield_served g port count old new written after e (inr (n, failed, ended, reported, turns, few, all, is)) shielded = shield_turns g n failed ended old new turns shielded

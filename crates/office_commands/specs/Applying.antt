@@ -12,49 +12,49 @@ use Rattle.office_desk.specs.Outcomes.{ActsCameTo, ActsOutcome, answers_of}
 use Rattle.office_json.specs.Answers.{answer_lines}
 use Rattle.office_json.specs.Lists.{NoActs, acts_in, not_json, bad_act}
 use Rattle.office_commands.specs.Calling.{Reports}
-use Rattle.office_commands.specs.Endings.{ending_of_acts}
-use Rattle.office_commands.specs.declared.ending.Ending.{Ending}
-use Rattle.office_commands.specs.declared.ending.Ending.TheVariants as how
+use Rattle.office_commands.specs.ExitStatuses.{exit_of_acts}
+use Rattle.office_commands.specs.declared.exit.Exit.{Exit}
+use Rattle.office_commands.specs.declared.exit.Exit.TheVariants as how
 use Rattle.office_commands.specs.Opening.{FromOpened, IsNotOpened, IsRestKept}
 
--- acts were performed: what they came to is reported; and of the state at which the desk was, as Of says, they did
-pub record Performs (Of : (State → Type 0) → Type 0) (acts : List Act) (new : FileState)
-    (written after : Option (List ℕ)) (ending : Ending) : Type 0 where
+-- acts were performed: what they came to is reported; and they came to it at the state of the desk
+pub record Performs (AtState : (State → Type 0) → Type 0) (acts : List Act) (new : FileState)
+    (written after : Option (List ℕ)) (exit : Exit) : Type 0 where
   pub outcome : ActsOutcome
-  pub reported : Reports (answer_lines (answers_of outcome)) (ending_of_acts outcome) written after ending
-  pub came : Of (λ t. ActsCameTo t acts outcome new)
+  pub reported : Reports (answer_lines (answers_of outcome)) (exit_of_acts outcome) written after exit
+  pub came : AtState (λ t. ActsCameTo t acts outcome new)
 
 -- how a text that is no list of acts is reported
-abbrev pub ending_of_none : NoActs → Ending
-ending_of_none not_json = how.NotJson
-ending_of_none (bad_act place refusal) = how.ActRefused place refusal
+abbrev pub exit_of_none : NoActs → Exit
+exit_of_none not_json = how.NotJson
+exit_of_none (bad_act place refusal) = how.ActRefused place refusal
 
 -- that was reported, or memory ran out to read it
-abbrev pub IsUnread : List ℕ → Ending → Type 0
-IsUnread text ending =
-    ((why : NoActs) × (acts_in text ≡ Err why) × (ending ≡ ending_of_none why)) ⊎ (ending ≡ how.Fault fault.Memory)
+abbrev pub IsUnread : List ℕ → Exit → Type 0
+IsUnread text exit =
+    ((why : NoActs) × (acts_in text ≡ Err why) × (exit ≡ exit_of_none why)) ⊎ (exit ≡ how.Fault fault.Memory)
 
 -- the text was not read as acts, and nothing was done; or its acts were performed
-abbrev pub Applies : ((State → Type 0) → Type 0) → List ℕ → FileState → Option (List ℕ) → Option (List ℕ) → Ending
+abbrev pub Applies : ((State → Type 0) → Type 0) → List ℕ → FileState → Option (List ℕ) → Option (List ℕ) → Exit
     → Type 0
-Applies Of text new written after ending =
-    IsUnread text ending × Of (λ t. HoldsRows (rows_of t) new) × (after ≡ written)
-    ⊎ ((acts : List Act) × (acts_in text ≡ Ok acts) × Performs Of acts new written after ending)
+Applies AtState text new written after exit =
+    IsUnread text exit × AtState (λ t. HoldsRows (rows_of t) new) × (after ≡ written)
+    ⊎ ((acts : List Act) × (acts_in text ≡ Ok acts) × Performs AtState acts new written after exit)
 
--- `apply FILE ACTS` where the text of acts was read, by the ending; what else the file has is kept
-abbrev pub TextEnds : List ℕ → FileState → FileState → Option (List ℕ) → Option (List ℕ) → Ending → Type 0
-TextEnds text old new written after ending =
-    IsNotOpened old new written after ending
-    ⊎ IsRestKept old new × Applies (FromOpened old new) text new written after ending
+-- `apply FILE ACTS` where the text of acts was read, by the exit; what else the file has is kept
+abbrev pub TextEnds : List ℕ → FileState → FileState → Option (List ℕ) → Option (List ℕ) → Exit → Type 0
+TextEnds text old new written after exit =
+    IsNotOpened old new written after exit
+    ⊎ IsRestKept old new × Applies (FromOpened old new) text new written after exit
 
 -- the text of acts was not read to its end, or memory ran out for it, and nothing was done
-abbrev pub IsNoText : {S : Type 0} → Held S → Held S → Option (List ℕ) → Option (List ℕ) → Ending → Type 0
-IsNoText old new written after ending =
-    ((ending ≡ how.File) ⊎ (ending ≡ how.Fault fault.Memory)) × (new ≡ old) × (after ≡ written)
+abbrev pub IsNoText : {S : Type 0} → Held S → Held S → Option (List ℕ) → Option (List ℕ) → Exit → Type 0
+IsNoText old new written after exit =
+    ((exit ≡ how.File) ⊎ (exit ≡ how.Fault fault.Memory)) × (new ≡ old) × (after ≡ written)
 
--- `apply FILE ACTS`, by the ending, where the reader reports the text
+-- `apply FILE ACTS`, by the exit, where the reader reports the text
 abbrev pub ApplyEnds : {S : Type 0} → Ghosts S → Option (List ℕ) → Held S → Held S → Option (List ℕ) → Option (List ℕ)
-    → Ending → Type 0
-ApplyEnds g text old new written after ending =
+    → Exit → Type 0
+ApplyEnds g text old new written after exit =
     IfSome text
-    (λ it. IsNoText old new written after ending ⊎ TextEnds it (state g old) (state g new) written after ending)
+    (λ it. IsNoText old new written after exit ⊎ TextEnds it (state g old) (state g new) written after exit)

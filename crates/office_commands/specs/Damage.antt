@@ -15,8 +15,8 @@ use Rattle.office_command_line.specs.Orders.{Command}
 use Rattle.office_commands.specs.Files.{IsLeftShielded, IsOpenedFrom, RunsInFiles, ServesInFiles}
 use Rattle.office_commands.specs.Running.{RunEnds}
 use Rattle.office_commands.specs.Serving.{ServiceEnds}
-use Rattle.office_commands.specs.declared.ending.Ending.{Ending}
-use Rattle.office_commands.specs.declared.ending.Ending.TheVariants as how
+use Rattle.office_commands.specs.declared.exit.Exit.{Exit}
+use Rattle.office_commands.specs.declared.exit.Exit.TheVariants as how
 use Rattle.office_commands.specs.declared.office_files.FilesLeft.{FilesLeft}
 use Rattle.office_commands.specs.declared.office_files.FilesLeft.TheVariants as files
 
@@ -46,24 +46,24 @@ module _ {D : Type 0} {g : Ghosts D} (start : D → List ℕ) (calls : D → Lis
   -- files that held this were not opened, which is fault 31, with nothing written; or so it ended over a connection to
   -- them, and where no wrong answer was taken as true while they were opened, none was to the end, or a digest collided
   abbrev pub FindsDamage : FilesLeft D g → Image → (Held (FileStore D g) → Held (FileStore D g) → Type 0)
-      → Option (List ℕ) → Option (List ℕ) → Ending → Type 0
-  FindsDamage left image Ends written after ending =
-      ((ending ≡ how.Fault fault.Store) × (after ≡ written))
+      → Option (List ℕ) → Option (List ℕ) → Exit → Type 0
+  FindsDamage left image Ends written after exit =
+      ((exit ≡ how.Fault fault.Store) × (after ≡ written))
       ⊎ ((was last : Held (FileStore D g)) × IsOpenedFrom image was last × Ends was last
       × (HasCleanDisk (file_state was) → (HasCleanDisk (file_state last) × IsLeftClean left) ⊎ HasLeftCollided left))
 
   -- each command over files of which this is left ended so
   abbrev pub CommandFindsDamage : FilesLeft D g → Type 0
   CommandFindsDamage left =
-      (image : Image) (order : Command) (text written after : Option (List ℕ)) (ending : Ending)
-      → RunsInFiles left image order text written after ending
-      → FindsDamage left image (λ was last. RunEnds over_files order text was last written after ending) written after
-      ending
+      (image : Image) (order : Command) (text written after : Option (List ℕ)) (exit : Exit)
+      → RunsInFiles left image order text written after exit
+      → FindsDamage left image (λ was last. RunEnds over_files order text was last written after exit) written after
+      exit
 
   -- and each service
   abbrev pub ServiceFindsDamage : FilesLeft D g → Type 0
   ServiceFindsDamage left =
-      (image : Image) (port count : ℕ) (written after : Option (List ℕ)) (ending : Ending)
-      → ServesInFiles left image port count written after ending
-      → FindsDamage left image (λ was last. ServiceEnds over_files port count was last written after ending) written
-      after ending
+      (image : Image) (port count : ℕ) (written after : Option (List ℕ)) (exit : Exit)
+      → ServesInFiles left image port count written after exit
+      → FindsDamage left image (λ was last. ServiceEnds over_files port count was last written after exit) written
+      after exit

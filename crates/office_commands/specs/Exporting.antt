@@ -9,15 +9,15 @@ use Rattle.office_wire.specs.declared.registers.ExportStop.{ExportStop}
 use Rattle.office_wire.specs.declared.registers.ExportStop.TheVariants as export
 use Rattle.office_command_line.specs.declared.register.Register.{Register}
 use Rattle.office_command_line.specs.declared.register.Register.TheVariants as register
-use Rattle.office_commands.specs.declared.ending.Ending.{Ending}
-use Rattle.office_commands.specs.declared.ending.Ending.TheVariants as how
+use Rattle.office_commands.specs.declared.exit.Exit.{Exit}
+use Rattle.office_commands.specs.declared.exit.Exit.TheVariants as how
 use Rattle.office_commands.specs.Opening.{FromOpened, IsNotOpened, IsOpened}
 
 -- what stopped an export is reported as such
-abbrev pub ending_of_export : Result (Unit {0}) ExportStop → Ending
-ending_of_export (Ok done) = how.Done
-ending_of_export (Err (export.Fault f)) = how.Fault f
-ending_of_export (Err export.Io) = how.File
+abbrev pub exit_of_export : Result (Unit {0}) ExportStop → Exit
+exit_of_export (Ok done) = how.Done
+exit_of_export (Err (export.Fault f)) = how.Fault f
+exit_of_export (Err export.Io) = how.File
 
 -- the text of a register of the office
 abbrev pub IsRegisterText : Register → Office → List ℕ → Type 0
@@ -30,15 +30,15 @@ abbrev pub IsRegister : Register → Option (List ℕ) → Option (List ℕ) →
 IsRegister it written after s = (text : List ℕ) × IsRegisterText it s text × Appends written after text
 
 -- a register was written at an open desk; or the writer failed, or memory ran out, and its first bytes went out, or none;
--- Of P is that P holds of the state at which the desk was
-abbrev pub Exports : ((State → Type 0) → Type 0) → Register → Option (List ℕ) → Option (List ℕ) → Ending → Type 0
-Exports Of it written after ending =
-    (ending ≡ how.Done) × Of (λ s. IsRegister it written after s.office)
-    ⊎ ((ending ≡ how.File) ⊎ (ending ≡ how.Fault fault.Memory))
-    × Of (λ s. IsSomeOut (IsRegisterText it) s.office written after)
+-- AtState P is that P holds of the state at which the desk was
+abbrev pub Exports : ((State → Type 0) → Type 0) → Register → Option (List ℕ) → Option (List ℕ) → Exit → Type 0
+Exports AtState it written after exit =
+    (exit ≡ how.Done) × AtState (λ s. IsRegister it written after s.office)
+    ⊎ ((exit ≡ how.File) ⊎ (exit ≡ how.Fault fault.Memory))
+    × AtState (λ s. IsSomeOut (IsRegisterText it) s.office written after)
 
--- `export FILE entries`, `export FILE DAY` or `overdue FILE DAY COUNT`, by its ending; an office of version 2 that was
+-- `export FILE entries`, `export FILE DAY` or `overdue FILE DAY COUNT`, by its exit; an office of version 2 that was
 -- opened stays as it was
-abbrev pub ExportEnds : Register → FileState → FileState → Option (List ℕ) → Option (List ℕ) → Ending → Type 0
-ExportEnds it old new written after ending =
-    IsNotOpened old new written after ending ⊎ IsOpened old new × Exports (FromOpened old new) it written after ending
+abbrev pub ExportEnds : Register → FileState → FileState → Option (List ℕ) → Option (List ℕ) → Exit → Type 0
+ExportEnds it old new written after exit =
+    IsNotOpened old new written after exit ⊎ IsOpened old new × Exports (FromOpened old new) it written after exit

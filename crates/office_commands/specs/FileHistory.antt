@@ -27,34 +27,34 @@ use Rattle.office_commands.specs.Files.{EndsOver, RunsInFiles, ServesInFiles}
 use Rattle.office_commands.specs.NextCommand.{IsLeftBy, IsServedTo}
 use Rattle.office_commands.specs.Running.{RunEnds}
 use Rattle.office_commands.specs.Serving.{ServiceEnds}
-use Rattle.office_commands.specs.declared.ending.Ending.{Ending}
+use Rattle.office_commands.specs.declared.exit.Exit.{Exit}
 use Rattle.office_commands.specs.declared.office_files.FilesLeft.{FilesLeft}
 use Rattle.office_commands.specs.declared.office_files.FilesLeft.TheVariants as files
 
 -- ---- one run
 
--- a run of the program, by what it read, what was written before and after, and its ending
+-- a run of the program, by what it read, what was written before and after, and its exit
 pub data ProgramRun : Type 0 where
-  ran_command : Command → List ℕ → Option (List ℕ) → Option (List ℕ) → Ending → ProgramRun
-  ran_service : ℕ → ℕ → Option (List ℕ) → Option (List ℕ) → Ending → ProgramRun
+  ran_command : Command → List ℕ → Option (List ℕ) → Option (List ℕ) → Exit → ProgramRun
+  ran_service : ℕ → ℕ → Option (List ℕ) → Option (List ℕ) → Exit → ProgramRun
 
 -- it was run over files that held this, and left these
 abbrev pub WasRun : {D : Type 0} {g : Ghosts D} → ProgramRun → Image → FilesLeft D g → Type 0
-WasRun (ran_command order text written after ending) image left = RunsInFiles left image order (Some text) written after ending
-WasRun (ran_service port count written after ending) image left = ServesInFiles left image port count written after ending
+WasRun (ran_command order text written after exit) image left = RunsInFiles left image order (Some text) written after exit
+WasRun (ran_service port count written after exit) image left = ServesInFiles left image port count written after exit
 
 -- it was killed over files that held this, once its last call had left this connection; it closed nothing, so nothing is
 -- said of files that it left
 abbrev pub WasKilled : {D : Type 0} {g : Ghosts D} → ProgramRun → Image → Held (FileStore D g) → Type 0
-WasKilled (ran_command order text written after ending) image last =
-    EndsOver (files.Unopened None) image (λ was last. RunEnds over_files order (Some text) was last written after ending) last
-WasKilled (ran_service port count written after ending) image last =
-    EndsOver (files.Unopened None) image (λ was last. ServiceEnds over_files port count was last written after ending) last
+WasKilled (ran_command order text written after exit) image last =
+    EndsOver (files.Unopened None) image (λ was last. RunEnds over_files order (Some text) was last written after exit) last
+WasKilled (ran_service port count written after exit) image last =
+    EndsOver (files.Unopened None) image (λ was last. ServiceEnds over_files port count was last written after exit) last
 
 -- the state at which it leaves an office that was at one: what its command says, or the same, as where it was not opened
 abbrev pub IsLeftAt : ProgramRun → State → State → Type 0
-IsLeftAt (ran_command order text written after ending) s u = (u ≡ s) ⊎ IsLeftBy order text written after ending s u
-IsLeftAt (ran_service port count written after ending) s u = (u ≡ s) ⊎ IsServedTo s u
+IsLeftAt (ran_command order text written after exit) s u = (u ≡ s) ⊎ IsLeftBy order text written after exit s u
+IsLeftAt (ran_service port count written after exit) s u = (u ≡ s) ⊎ IsServedTo s u
 
 -- ---- what the next run finds
 

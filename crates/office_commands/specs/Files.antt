@@ -22,8 +22,8 @@ use Rattle.office_commands.specs.Applying.{TextEnds}
 use Rattle.office_commands.specs.Running.{RunEnds}
 use Rattle.office_commands.specs.Serving.{ServiceEnds}
 use Rattle.office_commands.specs.Tables.{SparesTables}
-use Rattle.office_commands.specs.declared.ending.Ending.{Ending}
-use Rattle.office_commands.specs.declared.ending.Ending.TheVariants as how
+use Rattle.office_commands.specs.declared.exit.Exit.{Exit}
+use Rattle.office_commands.specs.declared.exit.Exit.TheVariants as how
 use Rattle.office_commands.specs.declared.office_files.FilesLeft.{FilesLeft}
 use Rattle.office_commands.specs.declared.office_files.FilesLeft.TheVariants as files
 
@@ -92,28 +92,28 @@ IsUnopenedLeft image (files.Unclosed store) = ⊥
 -- files that held this were not opened, which is fault 31, with nothing written; or so it ended over their connection,
 -- which was closed
 abbrev pub EndsInFiles : {D : Type 0} {g : Ghosts D} → FilesLeft D g → Image
-    → (Held (FileStore D g) → Held (FileStore D g) → Type 0) → Option (List ℕ) → Option (List ℕ) → Ending → Type 0
-EndsInFiles {D} {g} left image Ends written after ending =
-    ((ending ≡ how.Fault fault.Store) × IsUnopenedLeft image left × (after ≡ written))
+    → (Held (FileStore D g) → Held (FileStore D g) → Type 0) → Option (List ℕ) → Option (List ℕ) → Exit → Type 0
+EndsInFiles {D} {g} left image Ends written after exit =
+    ((exit ≡ how.Fault fault.Store) × IsUnopenedLeft image left × (after ≡ written))
     ⊎ ((last : Held (FileStore D g)) × EndsOver left image Ends last × IsLeftOf last left)
 
 -- an order on the office in files that held this, where the reader reports the text that it reads
 abbrev pub RunsInFiles : {D : Type 0} {g : Ghosts D} → FilesLeft D g → Image → Command → Option (List ℕ)
-    → Option (List ℕ) → Option (List ℕ) → Ending → Type 0
-RunsInFiles left image order text written after ending =
-    EndsInFiles left image (λ was last. RunEnds over_files order text was last written after ending) written after
-    ending
+    → Option (List ℕ) → Option (List ℕ) → Exit → Type 0
+RunsInFiles left image order text written after exit =
+    EndsInFiles left image (λ was last. RunEnds over_files order text was last written after exit) written after
+    exit
 
 -- the acts of a text that is in memory, on the office in files that held this
 abbrev pub AppliesInFiles : {D : Type 0} {g : Ghosts D} → FilesLeft D g → Image → List ℕ → Option (List ℕ)
-    → Option (List ℕ) → Ending → Type 0
-AppliesInFiles left image text written after ending =
+    → Option (List ℕ) → Exit → Type 0
+AppliesInFiles left image text written after exit =
     EndsInFiles left image
-    (λ was last. TextEnds text (state over_files was) (state over_files last) written after ending) written after ending
+    (λ was last. TextEnds text (state over_files was) (state over_files last) written after exit) written after exit
 
 -- a service of the office in files that held this, at a port and for so many connections
 abbrev pub ServesInFiles : {D : Type 0} {g : Ghosts D} → FilesLeft D g → Image → ℕ → ℕ → Option (List ℕ)
-    → Option (List ℕ) → Ending → Type 0
-ServesInFiles left image port count written after ending =
-    EndsInFiles left image (λ was last. ServiceEnds over_files port count was last written after ending) written after
-    ending
+    → Option (List ℕ) → Exit → Type 0
+ServesInFiles left image port count written after exit =
+    EndsInFiles left image (λ was last. ServiceEnds over_files port count was last written after exit) written after
+    exit

@@ -20,16 +20,16 @@ use Rattle.office_wire.specs.declared.record_import.ImportStop.{ImportStop}
 use Rattle.office_wire.specs.declared.record_import.ImportStop.TheVariants as import
 use Rattle.office_wire.specs.Importing.{AreAllRows, AreLinesOut, ArePrefixRows, AreRowsBeforeBad, AreRowsDone, AreSomeRows, lines_from, refused_count}
 use Rattle.office_commands.specs.Opening.{FromOpened, IsNotOpened}
-use Rattle.office_commands.specs.declared.ending.Ending.{Ending}
-use Rattle.office_commands.specs.declared.ending.Ending.TheVariants as how
+use Rattle.office_commands.specs.declared.exit.Exit.{Exit}
+use Rattle.office_commands.specs.declared.exit.Exit.TheVariants as how
 
 -- a row that is refused is reported by the exit status alone, and what stopped an import as such
-abbrev pub ending_of_import : Result ℕ ImportStop → Ending
-ending_of_import (Ok refused) = if refused == 0 then how.Done else how.SomeRefused
-ending_of_import (Err import.Header) = how.CsvHeader
-ending_of_import (Err (import.Row number)) = how.CsvRow number
-ending_of_import (Err (import.Fault f)) = how.Fault f
-ending_of_import (Err import.Io) = how.File
+abbrev pub exit_of_import : Result ℕ ImportStop → Exit
+exit_of_import (Ok refused) = if refused == 0 then how.Done else how.SomeRefused
+exit_of_import (Err import.Header) = how.CsvHeader
+exit_of_import (Err (import.Row number)) = how.CsvRow number
+exit_of_import (Err (import.Fault f)) = how.Fault f
+exit_of_import (Err import.Io) = how.File
 
 -- rows were done from a state on: the tables are those of the state after them, and their lines are written
 pub record AreSaved (day : ℤ) (rows : List Fields) (answers : List Answer) (u : State) (new : FileState)
@@ -83,16 +83,16 @@ AreImported day text (Err (import.Row number)) = AreSavedBeforeBad day text numb
 AreImported day text (Err (import.Fault f)) = AreCutShort day text f
 AreImported day text (Err import.Io) = AreUnreported day text
 
--- the rows of a text at an open desk came to this, and that is the ending; Of P is that P holds of the state at which
--- the desk was
+-- the rows of a text at an open desk came to this, and that is the exit; AtState P is that P holds of the state at
+-- which the desk was
 abbrev pub ImportsAt : ((State → Type 0) → Type 0) → ℤ → Option (List ℕ) → FileState → Option (List ℕ) → Option (List ℕ)
-    → Ending → Type 0
-ImportsAt Of day text new written after ending =
-    (done : Result ℕ ImportStop) × (ending ≡ ending_of_import done) × Of (AreImported day text done new written after)
+    → Exit → Type 0
+ImportsAt AtState day text new written after exit =
+    (done : Result ℕ ImportStop) × (exit ≡ exit_of_import done) × AtState (AreImported day text done new written after)
 
--- `import FILE DAY CSV`, by the ending; a byte order mark at the start of the text is passed over
-abbrev pub ImportEnds : ℤ → Option (List ℕ) → FileState → FileState → Option (List ℕ) → Option (List ℕ) → Ending
+-- `import FILE DAY CSV`, by the exit; a byte order mark at the start of the text is passed over
+abbrev pub ImportEnds : ℤ → Option (List ℕ) → FileState → FileState → Option (List ℕ) → Option (List ℕ) → Exit
     → Type 0
-ImportEnds day text old new written after ending =
-    IsNotOpened old new written after ending
-    ⊎ ImportsAt (FromOpened old new) day (option_map strip_bom text) new written after ending
+ImportEnds day text old new written after exit =
+    IsNotOpened old new written after exit
+    ⊎ ImportsAt (FromOpened old new) day (option_map strip_bom text) new written after exit

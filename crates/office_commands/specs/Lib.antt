@@ -2,7 +2,7 @@ pub mod Applying
 pub mod Calling
 pub mod Certifying
 pub mod Damage
-pub mod Endings
+pub mod ExitStatuses
 pub mod Exporting
 pub mod FileHistory
 pub mod Files

@@ -3,14 +3,14 @@ use Rattle.std.specs.Prelude.{◌⊎◌, ℕ, List, ◌∷◌, [], ◌++◌, cod
 use Rattle.sqlite.specs.State.{State as FileState}
 use Rattle.office_commands.specs.Calling.{Reports}
 use Rattle.office_commands.specs.Opening.{IsNotOpened, IsOpened}
-use Rattle.office_commands.specs.declared.ending.Ending.{Ending}
-use Rattle.office_commands.specs.declared.ending.Ending.TheVariants as how
+use Rattle.office_commands.specs.declared.exit.Exit.{Exit}
+use Rattle.office_commands.specs.declared.exit.Exit.TheVariants as how
 
 -- the line that reports the version of the office's file
 abbrev pub version_line : List ℕ
 version_line = codes "version 2" ++ 10 ∷ []
 
 -- `init FILE`: the office was not opened, and nothing is written; or it was, and the version is reported
-abbrev pub InitEnds : FileState → FileState → Option (List ℕ) → Option (List ℕ) → Ending → Type 0
-InitEnds old new written after ending =
-    IsNotOpened old new written after ending ⊎ IsOpened old new × Reports version_line how.Done written after ending
+abbrev pub InitEnds : FileState → FileState → Option (List ℕ) → Option (List ℕ) → Exit → Type 0
+InitEnds old new written after exit =
+    IsNotOpened old new written after exit ⊎ IsOpened old new × Reports version_line how.Done written after exit

@@ -29,8 +29,8 @@ use Rattle.office_json.specs.Answers.{answer_lines}
 use Rattle.office_json.specs.Lists.{acts_in}
 use Rattle.office_csv.specs.ImportRows.{Fields}
 use Rattle.office_wire.specs.Importing.{AreLinesOut, ArePrefixRows, AreRowsDone, IsRowDone, lines_from}
-use Rattle.office_commands.specs.declared.ending.Ending.{Ending}
-use Rattle.office_commands.specs.declared.ending.Ending.TheVariants as how
+use Rattle.office_commands.specs.declared.exit.Exit.{Exit}
+use Rattle.office_commands.specs.declared.exit.Exit.TheVariants as how
 use Rattle.office_commands.specs.declared.office_files.FilesLeft.{FilesLeft}
 use Rattle.office_commands.specs.declared.office_files.FilesLeft.TheVariants as files
 
@@ -57,53 +57,53 @@ abbrev pub IsUntouched : Option (List ℕ) → Option (List ℕ) → State → S
 IsUntouched written after s u = (u ≡ s) × (after ≡ written)
 
 -- these lines were written; or writing failed, and their first bytes went out, or none
-abbrev pub AreWritten : List ℕ → Option (List ℕ) → Option (List ℕ) → Ending → Type 0
-AreWritten lines written after ending =
-    Appends written after lines ⊎ (ending ≡ how.File) × AppendsSome written after lines
+abbrev pub AreWritten : List ℕ → Option (List ℕ) → Option (List ℕ) → Exit → Type 0
+AreWritten lines written after exit =
+    Appends written after lines ⊎ (exit ≡ how.File) × AppendsSome written after lines
 
 -- acts of the text were done: those whose answers were written, and at most one more; where writing failed, the answers
 -- of them are those of which the first bytes went out
-pub record AreActsDone (text : List ℕ) (written after : Option (List ℕ)) (ending : Ending) (s u : State) : Type 0 where
+pub record AreActsDone (text : List ℕ) (written after : Option (List ℕ)) (exit : Exit) (s u : State) : Type 0 where
   pub acts : List Act
   pub read : acts_in text ≡ Ok acts
   pub count : ℕ
   pub within : count ≤ length acts
-  pub answered : AreWritten (answer_lines (answers s (take count acts))) written after ending
+  pub answered : AreWritten (answer_lines (answers s (take count acts))) written after exit
   pub state : (u ≡ after_acts s (take count acts)) ⊎ (u ≡ after_acts s (take (count + 1) acts))
 
 -- rows of the text were added, in their order: those whose lines were written, and at most one more; where writing
 -- failed, all of them have their lines, but for a part of the last one's
-pub record AreRowsAdded (day : ℤ) (text : Option (List ℕ)) (written after : Option (List ℕ)) (ending : Ending)
+pub record AreRowsAdded (day : ℤ) (text : Option (List ℕ)) (written after : Option (List ℕ)) (exit : Exit)
     (s u : State) : Type 0 where
   pub rows : List Fields
   pub answers : List Answer
   pub reached : State
   pub begins : (more : List Fields) × ArePrefixRows text (rows ++ more)
   pub done : AreRowsDone day s rows answers reached
-  pub answered : Appends written after (lines_from 0 answers) ⊎ (ending ≡ how.File) × AreLinesOut answers written after
+  pub answered : Appends written after (lines_from 0 answers) ⊎ (exit ≡ how.File) × AreLinesOut answers written after
   pub state : (u ≡ reached) ⊎ ((row : Fields) × (answer : Answer) × IsRowDone day reached row answer u)
 
 -- steps of the open run were taken; where the command is done, to the end of the run
-pub record AreStepsTaken (ending : Ending) (s u : State) : Type 0 where
+pub record AreStepsTaken (exit : Exit) (s u : State) : Type 0 where
   pub count : ℕ
   pub state : u ≡ after_steps s count
-  pub closed : ending ≡ how.Done → (run : ℕ) × (open_run s.office ≡ Some run) × (u ≡ whole s run)
+  pub closed : exit ≡ how.Done → (run : ℕ) × (open_run s.office ≡ Some run) × (u ≡ whole s run)
 
 -- at which state an order leaves an office that was at one, by what it read and wrote and how it ended
-abbrev pub IsLeftBy : Command → List ℕ → Option (List ℕ) → Option (List ℕ) → Ending → State → State → Type 0
-IsLeftBy (command.apply file acts) text written after ending s u =
-    IsUntouched written after s u ⊎ AreActsDone text written after ending s u
-IsLeftBy (command.import file day csv) text written after ending s u =
-    IsUntouched written after s u ⊎ AreRowsAdded day (option_map strip_bom (Some text)) written after ending s u
-IsLeftBy (command.resume file) text written after ending s u = AreStepsTaken ending s u
-IsLeftBy (command.init file) text written after ending s u = u ≡ s
-IsLeftBy (command.export file register) text written after ending s u = u ≡ s
-IsLeftBy (command.overdue file day n) text written after ending s u = u ≡ s
-IsLeftBy (command.certificate file run) text written after ending s u = u ≡ s
-IsLeftBy (command.serve file port count) text written after ending s u = u ≡ s
-IsLeftBy (command.plan file) text written after ending s u = u ≡ s
-IsLeftBy (command.due unit count offset day) text written after ending s u = u ≡ s
-IsLeftBy command.nothing text written after ending s u = u ≡ s
+abbrev pub IsLeftBy : Command → List ℕ → Option (List ℕ) → Option (List ℕ) → Exit → State → State → Type 0
+IsLeftBy (command.apply file acts) text written after exit s u =
+    IsUntouched written after s u ⊎ AreActsDone text written after exit s u
+IsLeftBy (command.import file day csv) text written after exit s u =
+    IsUntouched written after s u ⊎ AreRowsAdded day (option_map strip_bom (Some text)) written after exit s u
+IsLeftBy (command.resume file) text written after exit s u = AreStepsTaken exit s u
+IsLeftBy (command.init file) text written after exit s u = u ≡ s
+IsLeftBy (command.export file register) text written after exit s u = u ≡ s
+IsLeftBy (command.overdue file day n) text written after exit s u = u ≡ s
+IsLeftBy (command.certificate file run) text written after exit s u = u ≡ s
+IsLeftBy (command.serve file port count) text written after exit s u = u ≡ s
+IsLeftBy (command.plan file) text written after exit s u = u ≡ s
+IsLeftBy (command.due unit count offset day) text written after exit s u = u ≡ s
+IsLeftBy command.nothing text written after exit s u = u ≡ s
 
 -- a service leaves an office after some acts
 abbrev pub IsServedTo : State → State → Type 0

@@ -12,8 +12,8 @@ use Rattle.office_store.specs.RepresentsRows.{HoldsRows}
 use Rattle.office_store.specs.declared.fault.Fault.{Fault}
 use Rattle.office_store.specs.declared.fault.Fault.TheVariants as fault
 use Rattle.office_desk.specs.Opening.{IsOpenable, LeavesRest, LeavesUnopened, RepresentIn}
-use Rattle.office_commands.specs.declared.ending.Ending.{Ending}
-use Rattle.office_commands.specs.declared.ending.Ending.TheVariants as how
+use Rattle.office_commands.specs.declared.exit.Exit.{Exit}
+use Rattle.office_commands.specs.declared.exit.Exit.TheVariants as how
 
 -- whatever a crash leaves has kept all that is not the office's
 abbrev pub IsRestKept : FileState → FileState → Type 0
@@ -52,6 +52,6 @@ pub record IsUnopened (f : Fault) (old new : FileState) : Type 0 where
   pub outside : new.in_transaction ≡ false
 
 -- the office was not opened, by this fault, and nothing is written
-abbrev pub IsNotOpened : FileState → FileState → Option (List ℕ) → Option (List ℕ) → Ending → Type 0
-IsNotOpened old new written after ending =
-    (f : Fault) × (ending ≡ how.Fault f) × IsUnopened f old new × (after ≡ written)
+abbrev pub IsNotOpened : FileState → FileState → Option (List ℕ) → Option (List ℕ) → Exit → Type 0
+IsNotOpened old new written after exit =
+    (f : Fault) × (exit ≡ how.Fault f) × IsUnopened f old new × (after ≡ written)

@@ -16,7 +16,7 @@ use Rattle.office_rules.specs.State.{State}
 use Rattle.office_command_line.specs.Orders.{Command}
 use Rattle.office_commands.specs.Files.{HeldOffice, IsLeftOf, LeavesAnOffice, RunsInFiles, ServesInFiles}
 use Rattle.office_commands.specs.NextCommand.{HoldsOfficeAt, HoldsWholeOffice, IsLeftBy, IsServedTo, LeavesFilesAt}
-use Rattle.office_commands.specs.declared.ending.Ending.{Ending}
+use Rattle.office_commands.specs.declared.exit.Exit.{Exit}
 use Rattle.office_commands.specs.declared.office_files.FilesLeft.{FilesLeft}
 use Rattle.office_commands.specs.declared.office_files.FilesLeft.TheVariants as files
 
@@ -42,17 +42,17 @@ CrashHoldsOffice last =
 -- over files that hold an office at a state a command was run: they hold one at a state at which the command leaves it
 abbrev pub CommandLeavesOffice : {D : Type 0} → Ghosts D → Type 0
 CommandLeavesOffice {D} g =
-    (image : Image) (s : State) (order : Command) (text : List ℕ) (written after : Option (List ℕ)) (ending : Ending)
+    (image : Image) (s : State) (order : Command) (text : List ℕ) (written after : Option (List ℕ)) (exit : Exit)
     (left : FilesLeft D g)
-    → HoldsOfficeAt image s → RunsInFiles left image order (Some text) written after ending
-    → LeavesFilesAt image s (IsLeftBy order text written after ending s) left
+    → HoldsOfficeAt image s → RunsInFiles left image order (Some text) written after exit
+    → LeavesFilesAt image s (IsLeftBy order text written after exit s) left
 
 -- the same of a service, which leaves the office after some acts
 abbrev pub ServiceLeavesOffice : {D : Type 0} → Ghosts D → Type 0
 ServiceLeavesOffice {D} g =
-    (image : Image) (s : State) (port count : ℕ) (written after : Option (List ℕ)) (ending : Ending)
+    (image : Image) (s : State) (port count : ℕ) (written after : Option (List ℕ)) (exit : Exit)
     (left : FilesLeft D g)
-    → HoldsOfficeAt image s → ServesInFiles left image port count written after ending
+    → HoldsOfficeAt image s → ServesInFiles left image port count written after exit
     → LeavesFilesAt image s (IsServedTo s) left
 
 -- an office of which each page has its sum, if the file has sums, is one

@@ -6,8 +6,8 @@ use Rattle.office_base.specs.declared.refusal.Refusal.TheVariants as refused
 use Rattle.office_rules.specs.State.{State}
 use Rattle.office_desk.specs.Resumptions.{RunLeft, RunOutcome, none_open, run_closed, run_stopped}
 use Rattle.office_commands.specs.Calling.{Reports}
-use Rattle.office_commands.specs.declared.ending.Ending.{Ending}
-use Rattle.office_commands.specs.declared.ending.Ending.TheVariants as how
+use Rattle.office_commands.specs.declared.exit.Exit.{Exit}
+use Rattle.office_commands.specs.declared.exit.Exit.TheVariants as how
 use Rattle.office_commands.specs.Opening.{FromOpened, IsNotOpened, IsRestKept}
 
 -- the line that reports the run that was closed
@@ -15,17 +15,17 @@ abbrev pub certificate_line : ℕ → List ℕ
 certificate_line run = codes "certificate " ++ decimal run ++ 10 ∷ []
 
 -- what a resumption came to is reported
-abbrev pub IsRunReported : RunOutcome → Option (List ℕ) → Option (List ℕ) → Ending → Type 0
-IsRunReported (run_closed run) written after ending = Reports (certificate_line run) how.Done written after ending
-IsRunReported none_open written after ending = (ending ≡ how.Refused refused.NoRun) × (after ≡ written)
-IsRunReported (run_stopped f) written after ending = (ending ≡ how.Fault f) × (after ≡ written)
+abbrev pub IsRunReported : RunOutcome → Option (List ℕ) → Option (List ℕ) → Exit → Type 0
+IsRunReported (run_closed run) written after exit = Reports (certificate_line run) how.Done written after exit
+IsRunReported none_open written after exit = (exit ≡ how.Refused refused.NoRun) × (after ≡ written)
+IsRunReported (run_stopped f) written after exit = (exit ≡ how.Fault f) × (after ≡ written)
 
--- a resumption at an open desk came to this; Of P is that P holds of the state at which the desk was
-abbrev pub Resumes : ((State → Type 0) → Type 0) → FileState → Option (List ℕ) → Option (List ℕ) → Ending → Type 0
-Resumes Of new written after ending = (o : RunOutcome) × Of (RunLeft o new) × IsRunReported o written after ending
+-- a resumption at an open desk came to this; AtState P is that P holds of the state at which the desk was
+abbrev pub Resumes : ((State → Type 0) → Type 0) → FileState → Option (List ℕ) → Option (List ℕ) → Exit → Type 0
+Resumes AtState new written after exit = (o : RunOutcome) × AtState (RunLeft o new) × IsRunReported o written after exit
 
--- `resume FILE`, by its ending; what else the file has is kept
-abbrev pub ResumeEnds : FileState → FileState → Option (List ℕ) → Option (List ℕ) → Ending → Type 0
-ResumeEnds old new written after ending =
-    IsNotOpened old new written after ending
-    ⊎ IsRestKept old new × Resumes (FromOpened old new) new written after ending
+-- `resume FILE`, by its exit; what else the file has is kept
+abbrev pub ResumeEnds : FileState → FileState → Option (List ℕ) → Option (List ℕ) → Exit → Type 0
+ResumeEnds old new written after exit =
+    IsNotOpened old new written after exit
+    ⊎ IsRestKept old new × Resumes (FromOpened old new) new written after exit

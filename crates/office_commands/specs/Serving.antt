@@ -6,9 +6,9 @@ use Rattle.sqlite.specs.Held.{Held, state}
 use Rattle.office_desk.specs.Desk.{DeskState}
 use Rattle.office_desk.specs.Leaving.{IsAt}
 use Rattle.office_wire.specs.Connections.{Turns}
-use Rattle.office_commands.specs.declared.ending.Ending.{Ending}
-use Rattle.office_commands.specs.declared.ending.Ending.TheVariants as how
-use Rattle.office_commands.specs.Endings.{ending_of_service}
+use Rattle.office_commands.specs.declared.exit.Exit.{Exit}
+use Rattle.office_commands.specs.declared.exit.Exit.TheVariants as how
+use Rattle.office_commands.specs.ExitStatuses.{exit_of_service}
 use Rattle.office_commands.specs.Opening.{FromOpened, IsNotOpened}
 use Rattle.office_commands.specs.Running.{listening_line}
 
@@ -17,19 +17,19 @@ pub record IsDeskOf {S : Type 0} (g : Ghosts S) (conn : Held S) (desk : DeskStat
   pub is_open : desk.is_poisoned ≡ false
   pub opened : FromOpened (state g conn) (state g desk.held) (λ t. IsAt g t desk)
 
--- a desk was served, by the ending: where it listens was not reported, and nothing is served; or connections were, one
+-- a desk was served, by the exit: where it listens was not reported, and nothing is served; or connections were, one
 -- after another, as many as were asked for or fewer where the desk was poisoned
 abbrev pub ServesAt : {S : Type 0} → Ghosts S → ℕ → ℕ → DeskState S → DeskState S → Option (List ℕ) → Option (List ℕ)
-    → Ending → Type 0
-ServesAt g port count old new written after ending =
-    ((ending ≡ how.File) × (new ≡ old))
+    → Exit → Type 0
+ServesAt g port count old new written after exit =
+    ((exit ≡ how.File) × (new ≡ old))
     ⊎ ((n : ℕ) × (failed ended : Bool) × Appends written after (listening_line port) × Turns g n failed ended old new
-    × (n ≤ count) × (ended ≡ false → n ≡ count) × (ending ≡ ending_of_service failed ended))
+    × (n ≤ count) × (ended ≡ false → n ≡ count) × (exit ≡ exit_of_service failed ended))
 
--- `serve FILE PORT COUNT` over a connection, by its ending
-abbrev pub ServiceEnds : {S : Type 0} → Ghosts S → ℕ → ℕ → Held S → Held S → Option (List ℕ) → Option (List ℕ) → Ending
+-- `serve FILE PORT COUNT` over a connection, by its exit
+abbrev pub ServiceEnds : {S : Type 0} → Ghosts S → ℕ → ℕ → Held S → Held S → Option (List ℕ) → Option (List ℕ) → Exit
     → Type 0
-ServiceEnds {S} g port count old new written after ending =
-    IsNotOpened (state g old) (state g new) written after ending
-    ⊎ ((first last : DeskState S) × IsDeskOf g old first × ServesAt g port count first last written after ending
+ServiceEnds {S} g port count old new written after exit =
+    IsNotOpened (state g old) (state g new) written after exit
+    ⊎ ((first last : DeskState S) × IsDeskOf g old first × ServesAt g port count first last written after exit
     × (new ≡ last.held))

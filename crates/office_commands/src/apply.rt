@@ -5,7 +5,7 @@ ghost use Rattle.sqlite.specs.State.{HasCleanDisk};
 ghost use Rattle.office_desk.specs.Outcomes.{FromEach, SparesTheRest};
 ghost use Rattle.office_commands.specs.Applying.{Applies, ApplyEnds, TextEnds};
 
-use crate::ending::Ending;
+use crate::exit::Exit;
 use office_base::read_whole;
 use office_desk::Desk;
 use office_json::{read_acts, write_answers};
@@ -14,12 +14,7 @@ use std::alloc::Global;
 use std::io::{Read, Write};
 
 /// Does the acts of a text at a desk that is open, and reports their answers.
-fn apply_at<W: Write, S: Alter>(
-    alloc: Global,
-    desk: &mut Desk<S>,
-    text: &[u8],
-    out: &mut W,
-) -> Ending
+fn apply_at<W: Write, S: Alter>(alloc: Global, desk: &mut Desk<S>, text: &[u8], out: &mut W) -> Exit
     requires { desk.old.is_poisoned ≡ false }
     ensures done { Applies (FromEach S.Store desk.old desk.new) text.now
         (state S.Store desk.new.held) (W.contents out.old) (W.contents out.new) result }
@@ -30,11 +25,11 @@ fn apply_at<W: Write, S: Alter>(
             let mut answers = Vec::new(alloc);
             let done = desk.perform_all(acts.as_slice(), &mut answers);
             match write_answers(answers.as_slice(), out) {
-                Ok(()) => Ending::of_acts(done, answers.as_slice()),
-                Err(_) => Ending::File,
+                Ok(()) => Exit::of_acts(done, answers.as_slice()),
+                Err(_) => Exit::File,
             }
         }
-        Err(fault) => Ending::from(fault),
+        Err(fault) => Exit::from(fault),
     }
 }
 
@@ -44,7 +39,7 @@ pub(crate) fn apply_text<W: Write, S: Alter>(
     conn: Connection<S>,
     text: &[u8],
     out: &mut W,
-) -> (Ending, Connection<S>)
+) -> (Exit, Connection<S>)
     requires { conn.in_transaction ≡ false }
     ensures ends { TextEnds text.now (state S.Store conn) (state S.Store result.1)
         (W.contents out.old) (W.contents out.new) result.0 }
@@ -53,10 +48,10 @@ pub(crate) fn apply_text<W: Write, S: Alter>(
 {
     match Desk::open(alloc, conn) {
         Ok(mut desk) => {
-            let ending = apply_at(alloc, &mut desk, text, out);
-            (ending, desk.close())
+            let exit = apply_at(alloc, &mut desk, text, out);
+            (exit, desk.close())
         }
-        Err((fault, conn)) => (Ending::Fault(fault), conn),
+        Err((fault, conn)) => (Exit::Fault(fault), conn),
     }
 }
 
@@ -67,7 +62,7 @@ pub fn apply_on<R: Read, W: Write, S: Alter>(
     conn: Connection<S>,
     input: &mut R,
     out: &mut W,
-) -> (Ending, Connection<S>)
+) -> (Exit, Connection<S>)
     requires { conn.in_transaction ≡ false }
     // The acts of the text are done in order and their answers written; or none is done.
     ensures ends { ApplyEnds S.Store (R.remaining input.old) conn result.1 (W.contents out.old)
@@ -81,6 +76,6 @@ pub fn apply_on<R: Read, W: Write, S: Alter>(
 {
     match read_whole(alloc, input) {
         Ok(text) => apply_text(alloc, conn, text.as_slice(), out),
-        Err(stop) => (Ending::from(stop), conn),
+        Err(stop) => (Exit::from(stop), conn),
     }
 }

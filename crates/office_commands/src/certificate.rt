@@ -6,7 +6,7 @@ ghost use Rattle.office_rules.specs.State.{State};
 ghost use Rattle.office_commands.specs.Calling.{Reports};
 ghost use Rattle.office_commands.specs.Certifying.{CertificateEnds, Certifies};
 
-use crate::ending::Ending;
+use crate::exit::Exit;
 use office_base::{Io, Refusal, write_out};
 use office_desk::Desk;
 use sqlite::{Alter, Connection};
@@ -14,25 +14,25 @@ use std::alloc::Global;
 use std::io::Write;
 
 /// Reports a text as it is.
-fn report_text<W: Write>(text: &str, out: &mut W) -> Ending
-    ensures { Reports text.now Ending.Done (W.contents out.old) (W.contents out.new) result }
+fn report_text<W: Write>(text: &str, out: &mut W) -> Exit
+    ensures { Reports text.now Exit.Done (W.contents out.old) (W.contents out.new) result }
 {
     match write_out(text.as_bytes(), out) {
-        Ok(()) => Ending::Done,
-        Err(Io) => Ending::File,
+        Ok(()) => Exit::Done,
+        Err(Io) => Exit::File,
     }
 }
 
 /// Reports the certificate of that run at a desk that is open.
-fn certificate_at<W: Write, S: Alter>(desk: &Desk<S>, run: u32, out: &mut W) -> Ending
+fn certificate_at<W: Write, S: Alter>(desk: &Desk<S>, run: u32, out: &mut W) -> Exit
     requires { desk.now.is_poisoned ≡ false }
     ensures { Certifies (λ P. (s : State) → s.office ≡ desk.now.office → P s) run
         (W.contents out.old) (W.contents out.new) result }
 {
     match desk.certificate(run) {
         Ok(Some(text)) => report_text(text.as_str(), out),
-        Ok(None) => Ending::Refused(Refusal::NoSuch),
-        Err(fault) => Ending::Fault(fault),
+        Ok(None) => Exit::Refused(Refusal::NoSuch),
+        Err(fault) => Exit::Fault(fault),
     }
 }
 
@@ -43,9 +43,9 @@ pub fn certificate_on<W: Write, S: Alter>(
     conn: Connection<S>,
     run: u32,
     out: &mut W,
-) -> (Ending, Connection<S>)
+) -> (Exit, Connection<S>)
     requires { conn.in_transaction ≡ false }
-    // The certificate of the run is written as it is; or the ending says why it is not.
+    // The certificate of the run is written as it is; or the exit says why it is not.
     ensures ends { CertificateEnds run (state S.Store conn) (state S.Store result.1)
         (W.contents out.old) (W.contents out.new) result.0 }
 
@@ -57,9 +57,9 @@ pub fn certificate_on<W: Write, S: Alter>(
 {
     match Desk::open(alloc, conn) {
         Ok(desk) => {
-            let ending = certificate_at(&desk, run, out);
-            (ending, desk.close())
+            let exit = certificate_at(&desk, run, out);
+            (exit, desk.close())
         }
-        Err((fault, conn)) => (Ending::Fault(fault), conn),
+        Err((fault, conn)) => (Exit::Fault(fault), conn),
     }
 }

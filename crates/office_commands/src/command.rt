@@ -9,8 +9,8 @@ ghost use Rattle.office_commands.specs.Running.{RunEnds, listening_line};
 
 use crate::apply::apply_on;
 use crate::certificate::certificate_on;
-use crate::ending::Ending;
-use crate::ending_line::report;
+use crate::exit::Exit;
+use crate::exit_line::report;
 use crate::export::export_on;
 use crate::init::init_on;
 use crate::record_import::import_on;
@@ -31,14 +31,14 @@ pub fn report_listening<W: Write>(port: u16, out: &mut W) -> Result<(), Io>
     out.flush().or(Err(Io))
 }
 
-/// What an order does over a connection to the office's file.
-fn carry_out<R: Read, W: Write, S: Alter>(
+/// Runs a command over a connection to the office's file, and reports nothing of its exit.
+fn dispatch<R: Read, W: Write, S: Alter>(
     alloc: Global,
     conn: Connection<S>,
     order: &Order<'_>,
     input: &mut R,
     out: &mut W,
-) -> (Ending, Connection<S>)
+) -> (Exit, Connection<S>)
     requires { conn.in_transaction ≡ false }
     ensures ends { RunEnds S.Store (command order.now) (R.remaining input.old) conn result.1
         (W.contents out.old) (W.contents out.new) result.0 }
@@ -56,13 +56,13 @@ fn carry_out<R: Read, W: Write, S: Alter>(
         Order::Resume { .. } => resume_on(alloc, conn, out),
         Order::Certificate { run, .. } => certificate_on(alloc, conn, *run, out),
         Order::Due { .. } | Order::Plan { .. } | Order::Serve { .. } | Order::Nothing => {
-            (Ending::BadWords, conn)
+            (Exit::BadWords, conn)
         }
     }
 }
 
 /// Runs a command over a connection to the office's file, outside a transaction: what it reads comes
-/// from `input`, what it answers goes to `out`, and the line of its ending to `err`. It gives the
+/// from `input`, what it answers goes to `out`, and the line of its exit to `err`. It gives the
 /// exit status, and the connection back. A command that is not run over a connection is none here:
 /// status 2, with nothing done.
 pub fn run_on<R: Read, W: Write, E: Write, S: Alter>(
@@ -74,7 +74,7 @@ pub fn run_on<R: Read, W: Write, E: Write, S: Alter>(
     err: &mut E,
 ) -> (u8, Connection<S>)
     requires { conn.in_transaction ≡ false }
-    // The command is run, and the status is that of its ending.
+    // The command is run, and the status is that of its exit.
     ensures runs { Exits result.0 (RunEnds S.Store (command order.now) (R.remaining input.old) conn
         result.1 (W.contents out.old) (W.contents out.new)) }
 
@@ -84,7 +84,7 @@ pub fn run_on<R: Read, W: Write, E: Write, S: Alter>(
     // Later reads are tested against digests, if they were before.
     ensures shield { (state S.Store conn).IsShielded → (state S.Store result.1).IsShielded }
 {
-    let (ending, conn) = carry_out(alloc, conn, order, input, out);
-    let _ = report(ending, err);
-    (ending.status(), conn)
+    let (exit, conn) = dispatch(alloc, conn, order, input, out);
+    let _ = report(exit, err);
+    (exit.status(), conn)
 }

@@ -6,7 +6,7 @@ ghost use Rattle.office_rules.specs.State.{State};
 ghost use Rattle.office_wire.specs.Exporting.{Exports as WritesText};
 ghost use Rattle.office_commands.specs.Exporting.{ExportEnds, Exports, IsRegisterText};
 
-use crate::ending::Ending;
+use crate::exit::Exit;
 use office_command_line::Register;
 use office_desk::Desk;
 use office_wire::{ExportStop, export_due, export_entries, export_overdue};
@@ -14,17 +14,17 @@ use sqlite::{Alter, Connection};
 use std::alloc::Global;
 use std::io::Write;
 
-impl From<Result<(), ExportStop>> for Ending {
+impl From<Result<(), ExportStop>> for Exit {
     ghost use Rattle.std.specs.Prelude.{◌≡◌};
-    ghost use Rattle.office_commands.specs.Exporting.{ending_of_export};
+    ghost use Rattle.office_commands.specs.Exporting.{exit_of_export};
 
-    ghost from_gives = { λ done ending. ending ≡ ending_of_export done };
+    ghost from_gives = { λ done exit. exit ≡ exit_of_export done };
 
-    fn from(done: Result<(), ExportStop>) -> Ending {
+    fn from(done: Result<(), ExportStop>) -> Exit {
         match done {
-            Ok(()) => Ending::Done,
-            Err(ExportStop::Fault(fault)) => Ending::Fault(fault),
-            Err(ExportStop::Io) => Ending::File,
+            Ok(()) => Exit::Done,
+            Err(ExportStop::Fault(fault)) => Exit::Fault(fault),
+            Err(ExportStop::Io) => Exit::File,
         }
     }
 }
@@ -53,13 +53,13 @@ fn export_at<W: Write, S: Alter>(
     desk: &mut Desk<S>,
     register: Register,
     out: &mut W,
-) -> Ending
+) -> Exit
     requires { desk.old.is_poisoned ≡ false }
     ensures exports { Exports (λ P. (s : State) → s.office ≡ desk.old.office → P s) register
         (W.contents out.old) (W.contents out.new) result }
     ensures kept { desk.new ≡ desk.old }
 {
-    Ending::from(write_register(alloc, desk, register, out))
+    Exit::from(write_register(alloc, desk, register, out))
 }
 
 /// `export FILE entries`, `export FILE DAY` or `overdue FILE DAY COUNT` over a connection to the
@@ -69,9 +69,9 @@ pub fn export_on<W: Write, S: Alter>(
     conn: Connection<S>,
     register: Register,
     out: &mut W,
-) -> (Ending, Connection<S>)
+) -> (Exit, Connection<S>)
     requires { conn.in_transaction ≡ false }
-    // The register is written whole; or the ending says why it is not.
+    // The register is written whole; or the exit says why it is not.
     ensures ends { ExportEnds register (state S.Store conn) (state S.Store result.1)
         (W.contents out.old) (W.contents out.new) result.0 }
 
@@ -83,9 +83,9 @@ pub fn export_on<W: Write, S: Alter>(
 {
     match Desk::open(alloc, conn) {
         Ok(mut desk) => {
-            let ending = export_at(alloc, &mut desk, register, out);
-            (ending, desk.close())
+            let exit = export_at(alloc, &mut desk, register, out);
+            (exit, desk.close())
         }
-        Err((fault, conn)) => (Ending::Fault(fault), conn),
+        Err((fault, conn)) => (Exit::Fault(fault), conn),
     }
 }

@@ -6,7 +6,7 @@ ghost use Rattle.office_store.specs.declared.fault.Fault.{Fault as AnyFault};
 ghost use Rattle.office_commands.specs.Calling.{Reports};
 ghost use Rattle.office_commands.specs.Making.{InitEnds, version_line};
 
-use crate::ending::Ending;
+use crate::exit::Exit;
 use office_base::{Io, write_out};
 use office_desk::Desk;
 use sqlite::{Alter, Connection};
@@ -14,12 +14,12 @@ use std::alloc::Global;
 use std::io::Write;
 
 /// Reports the version of the office's file.
-fn report_version<W: Write>(out: &mut W) -> Ending
-    ensures { Reports version_line Ending.Done (W.contents out.old) (W.contents out.new) result }
+fn report_version<W: Write>(out: &mut W) -> Exit
+    ensures { Reports version_line Exit.Done (W.contents out.old) (W.contents out.new) result }
 {
     match write_out(b"version 2\n", out) {
-        Ok(()) => Ending::Done,
-        Err(Io) => Ending::File,
+        Ok(()) => Exit::Done,
+        Err(Io) => Exit::File,
     }
 }
 
@@ -29,14 +29,14 @@ pub fn init_on<W: Write, S: Alter>(
     alloc: Global,
     conn: Connection<S>,
     out: &mut W,
-) -> (Ending, Connection<S>)
+) -> (Exit, Connection<S>)
     requires { conn.in_transaction ≡ false }
     // The office is opened and its version written; or a fault says why it is not opened.
     ensures ends { InitEnds (state S.Store conn) (state S.Store result.1) (W.contents out.old)
         (W.contents out.new) result.0 }
 
     // At a fault nothing is written.
-    ensures untouched { (fault : AnyFault) → result.0 ≡ Ending.Fault fault → out.new ≡ out.old }
+    ensures untouched { (fault : AnyFault) → result.0 ≡ Exit.Fault fault → out.new ≡ out.old }
 
     // A disk that is clean afterwards was clean before.
     ensures clean { HasCleanDisk (state S.Store result.1) → HasCleanDisk (state S.Store conn) }
@@ -46,6 +46,6 @@ pub fn init_on<W: Write, S: Alter>(
 {
     match Desk::open(alloc, conn) {
         Ok(desk) => (report_version(out), desk.close()),
-        Err((fault, conn)) => (Ending::Fault(fault), conn),
+        Err((fault, conn)) => (Exit::Fault(fault), conn),
     }
 }

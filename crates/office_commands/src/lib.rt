@@ -3,7 +3,7 @@
 //!
 //! `command` runs one. `init` makes the office or opens it, `apply` does the acts of a JSON
 //! array, `resume` resumes the open run, `certificate` prints a certificate, `record_import` adds
-//! the records of a CSV file, and `export` writes a register. Each ends with an [`Ending`], what
+//! the records of a CSV file, and `export` writes a register. Each ends with an [`Exit`], what
 //! the program reports to the caller: the exit status, and the line on standard error.
 //! `office_files` opens the office's file, runs a command on it, and closes it; `service` does
 //! so for a service. `next_command` has the law from one command over a file to the next, and
@@ -15,8 +15,8 @@ mod apply;
 mod certificate;
 mod command;
 mod damage;
-mod ending;
-mod ending_line;
+mod exit;
+mod exit_line;
 mod export;
 mod file_history;
 mod init;
@@ -30,8 +30,8 @@ pub use apply::apply_on;
 pub use certificate::certificate_on;
 pub use command::{report_listening, run_on};
 pub use damage::law_of_found_damage;
-pub use ending::Ending;
-pub use ending_line::report;
+pub use exit::Exit;
+pub use exit_line::report;
 pub use file_history::{law_of_each_run, law_of_file_histories};
 pub use init::init_on;
 pub use next_command::{law_of_a_killed_command, law_of_each_command, law_of_the_next_command};

@@ -10,8 +10,8 @@ ghost use Rattle.office_commands.specs.Files.{AppliesInFiles, IsLeftOf, IsLeftSh
 
 use crate::apply::apply_text;
 use crate::command::run_on;
-use crate::ending::Ending;
-use crate::ending_line::report;
+use crate::exit::Exit;
+use crate::exit_line::report;
 use office_command_line::Order;
 use office_store::Fault;
 use sqlite::{Alter, Connection, FileFrom, FileStore, Files, Leftover, Start};
@@ -95,9 +95,9 @@ pub fn open_and_run<S: Start, R: Read, W: Write, E: Write>(
             (status, close(conn))
         }
         Err((_, left)) => {
-            let ending = Ending::Fault(Fault::Store);
-            let _ = report(ending, err);
-            (ending.status(), FilesLeft::Unopened(left))
+            let exit = Exit::Fault(Fault::Store);
+            let _ = report(exit, err);
+            (exit.status(), FilesLeft::Unopened(left))
         }
     }
 }
@@ -111,7 +111,7 @@ pub fn open_and_apply<S: Start, W: Write>(
     start: S,
     text: &[u8],
     out: &mut W,
-) -> (Ending, FilesLeft<FileFrom<S>>)
+) -> (Exit, FilesLeft<FileFrom<S>>)
     // The acts of the text are done in order and their answers written; or none is done.
     ensures applies { AppliesInFiles result.1 (image_at S.Start) text.now (W.contents out.old)
         (W.contents out.new) result.0 }
@@ -123,10 +123,10 @@ pub fn open_and_apply<S: Start, W: Write>(
     match Connection::open_from(rt, file, false, start) {
         Ok(conn) => {
             law_of_the_last_commit(&conn);
-            let (ending, conn) = apply_text(rt.alloc(), conn, text, out);
+            let (exit, conn) = apply_text(rt.alloc(), conn, text, out);
             law_of_the_last_commit(&conn);
-            (ending, close(conn))
+            (exit, close(conn))
         }
-        Err((_, left)) => (Ending::Fault(Fault::Store), FilesLeft::Unopened(left)),
+        Err((_, left)) => (Exit::Fault(Fault::Store), FilesLeft::Unopened(left)),
     }
 }

@@ -6,7 +6,7 @@ ghost use Rattle.sqlite.specs.State.{HasCleanDisk};
 ghost use Rattle.office_desk.specs.Outcomes.{FromEach};
 ghost use Rattle.office_commands.specs.Importing.{ImportEnds, ImportsAt};
 
-use crate::ending::Ending;
+use crate::exit::Exit;
 use office_days::Day;
 use office_desk::Desk;
 use office_wire::{ImportStop, import_records};
@@ -14,21 +14,21 @@ use sqlite::{Alter, Connection};
 use std::alloc::Global;
 use std::io::{Read, Write};
 
-impl From<Result<u64, ImportStop>> for Ending {
+impl From<Result<u64, ImportStop>> for Exit {
     ghost use Rattle.std.specs.Prelude.{◌≡◌};
-    ghost use Rattle.office_commands.specs.Importing.{ending_of_import};
+    ghost use Rattle.office_commands.specs.Importing.{exit_of_import};
 
-    ghost from_gives = { λ done ending. ending ≡ ending_of_import done };
+    ghost from_gives = { λ done exit. exit ≡ exit_of_import done };
 
-    // The ending of an import, of whose rows so many were refused.
-    fn from(done: Result<u64, ImportStop>) -> Ending {
+    // The exit of an import, of whose rows so many were refused.
+    fn from(done: Result<u64, ImportStop>) -> Exit {
         match done {
-            Ok(0) => Ending::Done,
-            Ok(_) => Ending::SomeRefused,
-            Err(ImportStop::Header) => Ending::CsvHeader,
-            Err(ImportStop::Row(number)) => Ending::CsvRow(number),
-            Err(ImportStop::Fault(fault)) => Ending::Fault(fault),
-            Err(ImportStop::Io) => Ending::File,
+            Ok(0) => Exit::Done,
+            Ok(_) => Exit::SomeRefused,
+            Err(ImportStop::Header) => Exit::CsvHeader,
+            Err(ImportStop::Row(number)) => Exit::CsvRow(number),
+            Err(ImportStop::Fault(fault)) => Exit::Fault(fault),
+            Err(ImportStop::Io) => Exit::File,
         }
     }
 }
@@ -40,7 +40,7 @@ fn import_at<R: Read, W: Write, S: Alter>(
     day: Day,
     input: &mut R,
     out: &mut W,
-) -> Ending
+) -> Exit
     ensures done { ImportsAt (FromEach S.Store desk.old desk.new) day
         (option_map strip_bom (R.remaining input.old)) (state S.Store desk.new.held)
         (W.contents out.old) (W.contents out.new) result }
@@ -49,7 +49,7 @@ fn import_at<R: Read, W: Write, S: Alter>(
     ensures shield { (state S.Store desk.old.held).IsShielded
         → (state S.Store desk.new.held).IsShielded }
 {
-    Ending::from(import_records(alloc, desk, day, input, out))
+    Exit::from(import_records(alloc, desk, day, input, out))
 }
 
 /// `import FILE DAY CSV` over a connection to the file; `input` is the text of CSV.
@@ -59,9 +59,9 @@ pub fn import_on<R: Read, W: Write, S: Alter>(
     day: Day,
     input: &mut R,
     out: &mut W,
-) -> (Ending, Connection<S>)
+) -> (Exit, Connection<S>)
     requires { conn.in_transaction ≡ false }
-    // The records of the rows are added in order; or the ending says why not all of them.
+    // The records of the rows are added in order; or the exit says why not all of them.
     ensures ends { ImportEnds day (R.remaining input.old) (state S.Store conn)
         (state S.Store result.1) (W.contents out.old) (W.contents out.new) result.0 }
 
@@ -73,9 +73,9 @@ pub fn import_on<R: Read, W: Write, S: Alter>(
 {
     match Desk::open(alloc, conn) {
         Ok(mut desk) => {
-            let ending = import_at(alloc, &mut desk, day, input, out);
-            (ending, desk.close())
+            let exit = import_at(alloc, &mut desk, day, input, out);
+            (exit, desk.close())
         }
-        Err((fault, conn)) => (Ending::Fault(fault), conn),
+        Err((fault, conn)) => (Exit::Fault(fault), conn),
     }
 }

@@ -10,7 +10,7 @@ ghost use Rattle.office_desk.specs.Resumptions.{run_outcome};
 ghost use Rattle.office_commands.specs.Calling.{Reports};
 ghost use Rattle.office_commands.specs.Resuming.{IsRunReported, ResumeEnds, Resumes, certificate_line};
 
-use crate::ending::Ending;
+use crate::exit::Exit;
 use itoa::Buffer;
 use office_base::{Io, put_parts};
 use office_desk::Desk;
@@ -36,18 +36,18 @@ fn write_closed<W: Write>(run: u32, out: &mut W) -> Result<(), Io>
 }
 
 /// Reports the run that was closed.
-fn report_closed<W: Write>(run: u32, out: &mut W) -> Ending
-    ensures { Reports (certificate_line run) Ending.Done (W.contents out.old) (W.contents out.new)
+fn report_closed<W: Write>(run: u32, out: &mut W) -> Exit
+    ensures { Reports (certificate_line run) Exit.Done (W.contents out.old) (W.contents out.new)
         result }
 {
     match write_closed(run, out) {
-        Ok(()) => Ending::Done,
-        Err(Io) => Ending::File,
+        Ok(()) => Exit::Done,
+        Err(Io) => Exit::File,
     }
 }
 
 /// Reports what a resumption answers, which is one of two answers.
-fn report_answer<W: Write>(answer: Answer, out: &mut W) -> Ending
+fn report_answer<W: Write>(answer: Answer, out: &mut W) -> Exit
     requires { (was_open : Option ℕ) × (answer ≡ resumed_answer was_open) }
     ensures { (was_open : Option ℕ) → answer ≡ resumed_answer was_open
         → IsRunReported (run_outcome (Ok answer) was_open) (W.contents out.old)
@@ -55,13 +55,13 @@ fn report_answer<W: Write>(answer: Answer, out: &mut W) -> Ending
 {
     match answer {
         Answer::RunClosed(run) => report_closed(run, out),
-        Answer::Refused(refusal) => Ending::Refused(refusal),
+        Answer::Refused(refusal) => Exit::Refused(refusal),
         _ => unreachable!(),
     }
 }
 
 /// Resumes the open run at a desk that is open.
-fn resume_at<W: Write, S: Alter>(desk: &mut Desk<S>, out: &mut W) -> Ending
+fn resume_at<W: Write, S: Alter>(desk: &mut Desk<S>, out: &mut W) -> Exit
     requires { desk.old.is_poisoned ≡ false }
     ensures done { Resumes (FromEach S.Store desk.old desk.new) (state S.Store desk.new.held)
         (W.contents out.old) (W.contents out.new) result }
@@ -69,7 +69,7 @@ fn resume_at<W: Write, S: Alter>(desk: &mut Desk<S>, out: &mut W) -> Ending
 {
     match desk.resume() {
         Ok(answer) => report_answer(answer, out),
-        Err(fault) => Ending::Fault(fault),
+        Err(fault) => Exit::Fault(fault),
     }
 }
 
@@ -79,9 +79,9 @@ pub fn resume_on<W: Write, S: Alter>(
     alloc: Global,
     conn: Connection<S>,
     out: &mut W,
-) -> (Ending, Connection<S>)
+) -> (Exit, Connection<S>)
     requires { conn.in_transaction ≡ false }
-    // The open run is closed and its number written; or the ending says why it is not.
+    // The open run is closed and its number written; or the exit says why it is not.
     ensures ends { ResumeEnds (state S.Store conn) (state S.Store result.1) (W.contents out.old)
         (W.contents out.new) result.0 }
 
@@ -93,9 +93,9 @@ pub fn resume_on<W: Write, S: Alter>(
 {
     match Desk::open(alloc, conn) {
         Ok(mut desk) => {
-            let ending = resume_at(&mut desk, out);
-            (ending, desk.close())
+            let exit = resume_at(&mut desk, out);
+            (exit, desk.close())
         }
-        Err((fault, conn)) => (Ending::Fault(fault), conn),
+        Err((fault, conn)) => (Exit::Fault(fault), conn),
     }
 }

@@ -7,7 +7,7 @@ ghost use Rattle.office_commands.specs.Files.{ServesInFiles};
 ghost use Rattle.office_commands.specs.Serving.{ServesAt, ServiceEnds};
 
 use crate::command::report_listening;
-use crate::ending::Ending;
+use crate::exit::Exit;
 use crate::office_files::{FilesLeft, close, law_of_the_last_commit};
 use office_desk::Desk;
 use office_store::Fault;
@@ -26,15 +26,15 @@ fn serve_at<L: OpenListener, W: Write, E: Write, S: Alter>(
     desk: &mut Desk<S>,
     out: &mut W,
     err: &mut E,
-) -> Ending
+) -> Exit
 where
     L::Stream: Read + Write + OpenStream,
     ensures { ServesAt S.Store port count desk.old desk.new (W.contents out.old)
         (W.contents out.new) result }
 {
     match report_listening(port, out) {
-        Ok(()) => { Ending::from(serve_each(rt.alloc(), routes, listener, rt, count, desk, err)) }
-        Err(_) => Ending::File,
+        Ok(()) => { Exit::from(serve_each(rt.alloc(), routes, listener, rt, count, desk, err)) }
+        Err(_) => Exit::File,
     }
 }
 
@@ -48,7 +48,7 @@ fn serve_on<L: OpenListener, W: Write, E: Write, S: Alter>(
     conn: Connection<S>,
     out: &mut W,
     err: &mut E,
-) -> (Ending, Connection<S>)
+) -> (Exit, Connection<S>)
 where
     L::Stream: Read + Write + OpenStream,
     requires { conn.in_transaction ≡ false }
@@ -59,10 +59,10 @@ where
 {
     match Desk::open(rt.alloc(), conn) {
         Ok(mut desk) => {
-            let ending = serve_at(rt, routes, listener, port, count, &mut desk, out, err);
-            (ending, desk.close())
+            let exit = serve_at(rt, routes, listener, port, count, &mut desk, out, err);
+            (exit, desk.close())
         }
-        Err((fault, conn)) => (Ending::Fault(fault), conn),
+        Err((fault, conn)) => (Exit::Fault(fault), conn),
     }
 }
 
@@ -80,7 +80,7 @@ pub fn open_and_serve<L: OpenListener, S: Start, W: Write, E: Write>(
     start: S,
     out: &mut W,
     err: &mut E,
-) -> (Ending, FilesLeft<FileFrom<S>>)
+) -> (Exit, FilesLeft<FileFrom<S>>)
 where
     L::Stream: Read + Write + OpenStream,
     ensures { ServesInFiles result.1 (image_at S.Start) port count (W.contents out.old)
@@ -89,10 +89,10 @@ where
     match Connection::open_from(rt, file, false, start) {
         Ok(conn) => {
             law_of_the_last_commit(&conn);
-            let (ending, conn) = serve_on(rt, routes, listener, port, count, conn, out, err);
+            let (exit, conn) = serve_on(rt, routes, listener, port, count, conn, out, err);
             law_of_the_last_commit(&conn);
-            (ending, close(conn))
+            (exit, close(conn))
         }
-        Err((_, left)) => (Ending::Fault(Fault::Store), FilesLeft::Unopened(left)),
+        Err((_, left)) => (Exit::Fault(Fault::Store), FilesLeft::Unopened(left)),
     }
 }

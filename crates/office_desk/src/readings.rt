@@ -8,20 +8,12 @@ ghost use Rattle.office_rules.specs.Registers.{AreDueRows, AreOverdueRows, entry
 ghost use Rattle.office_desk.specs.Calling.{Reads};
 
 use crate::Desk;
-use office_base::Memory;
 use office_days::{ConfirmDays, Day};
 use office_machine::{DueRows, EntryRows};
 use office_records::RecordNo;
 use office_rules::{Entry, RecordView, RunNo};
 use office_store::Fault;
 use sqlite::Alter;
-
-/// The fault of a growth that was refused.
-fn of_memory(_: Memory) -> Fault
-    ensures { result ≡ Fault.Memory }
-{
-    Fault::Memory
-}
 
 impl<S: Alter> Desk<S> {
     /// Refuses where the desk was poisoned.
@@ -44,7 +36,7 @@ impl<S: Alter> Desk<S> {
             → record_view self.now.office record_no ≡ None → result ≡ Ok None }
     {
         self.check_open()?;
-        self.machine.record(record_no).map_err(of_memory)
+        Ok(self.machine.record(record_no)?)
     }
 
     /// The entry that ended the record; `None` where it is not ended or not there, which takes no
@@ -56,7 +48,7 @@ impl<S: Alter> Desk<S> {
             → ending_entry self.now.office record_no ≡ None → result ≡ Ok None }
     {
         self.check_open()?;
-        self.machine.entry_of(record_no).map_err(of_memory)
+        Ok(self.machine.entry_of(record_no)?)
     }
 
     /// All entries, by run, then record. Faults as of `record`.
@@ -64,7 +56,7 @@ impl<S: Alter> Desk<S> {
         ensures { Reads self.now (λ all. all.items ≡ all_entries_of self.now.office) result }
     {
         self.check_open()?;
-        self.machine.entries().map_err(of_memory)
+        Ok(self.machine.entries()?)
     }
 
     /// The text of the certificate of that run; `None` where it is not closed or not there, which
@@ -77,7 +69,7 @@ impl<S: Alter> Desk<S> {
             → get self.now.office.certificates run ≡ None → result ≡ Ok None }
     {
         self.check_open()?;
-        self.machine.certificate(run).map_err(of_memory)
+        Ok(self.machine.certificate(run)?)
     }
 
     /// The due list of the day: the records that are here and due on it or before it, by due day,
@@ -86,7 +78,7 @@ impl<S: Alter> Desk<S> {
         ensures { Reads self.now (λ list. IsDueList self.now.office.tree day list.items) result }
     {
         self.check_open()?;
-        self.machine.due_list(day).map_err(of_memory)
+        Ok(self.machine.due_list(day)?)
     }
 
     /// What is reported of the records that are due on the day, row by row, in the order of the due
@@ -95,7 +87,7 @@ impl<S: Alter> Desk<S> {
         ensures { Reads self.now (λ rows. AreDueRows self.now.office day rows) result }
     {
         self.check_open()?;
-        self.machine.due_rows(day).map_err(of_memory)
+        Ok(self.machine.due_rows(day)?)
     }
 
     /// What is overdue on the day: the records that are here whose deadline, so many days after the
@@ -106,7 +98,7 @@ impl<S: Alter> Desk<S> {
             result }
     {
         self.check_open()?;
-        self.machine.overdue_list(day, days).map_err(of_memory)
+        Ok(self.machine.overdue_list(day, days)?)
     }
 
     /// The rows of what is overdue on the day, in the order of that list. Faults as of `record`.
@@ -114,7 +106,7 @@ impl<S: Alter> Desk<S> {
         ensures { Reads self.now (λ rows. AreOverdueRows self.now.office day days rows) result }
     {
         self.check_open()?;
-        self.machine.overdue_rows(day, days).map_err(of_memory)
+        Ok(self.machine.overdue_rows(day, days)?)
     }
 
     /// What is reported of all entries, row by row, by run, then record. `Reopen` where the desk

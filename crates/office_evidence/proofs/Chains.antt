@@ -2,7 +2,7 @@
 use Rattle.std.proofs.Common.{◌≡◌, ℕ, zero, suc, List, [], ◌∷◌, get_or, map, Option, Some, None, Result, Ok, Err, refl, sym, ap, subst, ◌∙◌, Bor}
 use Rattle.std.specs.Option.{ok_or}
 use Rattle.std.specs.Option.{option_copied}
-use Rattle.std.specs.Prelude.{IsErrAnd, MatchResult}
+use Rattle.std.specs.Prelude.{IfOk, IsErrAnd, MatchResult}
 use Rattle.office_evidence.specs.Reading.{Gives}
 use Rattle.office_evidence.specs.declared.words.Unread.{Unread}
 use Rattle.office_evidence.specs.declared.words.Unread.TheVariants.{Memory}
@@ -50,6 +50,10 @@ module _ {A : Type 0} where
   -- what is there is given
   pub gives_it : (o : Option A) (x : A) (r : Result A Unread) (other : Unread) → o ≡ Some x → r ≡ ok_or o other → Gives r x
   gives_it o x r other is value = subst (λ (p : Result A Unread). Gives p x) (sym (value ∙ ap (λ (p : Option A). ok_or p other) is)) refl
+
+-- what is so of all that may be given is so of what is given
+pub given_so : {A : Type 0} (P : A → Type 0) (r : Result A Unread) (x : A) → IfOk r P → r ≡ Ok x → P x
+given_so P r x so was = subst (λ p. IfOk p P) was so
 
 -- what is there behind a reference
 there_behind : (o : Option (Bor (List ℕ))) (t : List ℕ) → option_copied o ≡ Some t → (b : Bor (List ℕ)) × (o ≡ Some b) × (b.now ≡ t)

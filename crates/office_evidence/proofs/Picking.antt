@@ -2,7 +2,7 @@
 use Rattle.std.proofs.Common.{◌≡◌, ℕ, ◌+◌, ◌<◌, ◌≤◌, Bool, true, false, cond, List, [], ◌∷◌, ◌++◌, drop, filter, get_or, length, map, refl, sym, ap, subst, ◌∙◌, append_assoc, append-nil, arith, Bor}
 use Rattle.std.specs.List.{All, Contains}
 use Rattle.std.proofs.lemmas.List.{drop_all, drop_more}
-use Rattle.std.proofs.lemmas.List.Elements.{All-contains, Contains-append_right}
+use Rattle.std.proofs.lemmas.List.Elements.{All-append, All-cons, All-contains, All-nil, Contains-append_right}
 
 -- a text behind a reference
 abbrev Line : Type 0
@@ -75,3 +75,7 @@ module _ {A : Type 0} (test : List ℕ → Bool) (form : A → List ℕ) (P : A 
   at_last lines i read them low it =
       let gone : left lines i ≡ [] = ap (λ (ls : List Line). filter test (map (λ (x : Line). x.now) ls)) (drop_all i lines low) in
       sym (it.1 ∙ ap (λ (rest : List A). read ++ rest) (none_left it.0 (sym gone ∙ it.2)) ∙ append-nil read)
+
+-- what was read, and one more
+pub one_more_so : {A : Type 0} (P : A → Type 0) (read now : List A) (x : A) → All P read → P x → now ≡ read ++ x ∷ [] → All P now
+one_more_so P read now x so is pushed = subst (λ xs. All P xs) (sym pushed) (All-append P read (x ∷ []) so (All-cons P x [] is (All-nil P)))

@@ -8,6 +8,7 @@
 //! act: whoever has a text alone, and not the office, needs no more than this crate.
 #![tactic(auto)]
 
+mod forms;
 pub mod laws;
 mod lines;
 mod parsed;

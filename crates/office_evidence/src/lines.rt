@@ -1,5 +1,5 @@
 //! The lines of a certificate, read again.
-ghost use Rattle.std.specs.Prelude.{◌≡◌, List, codes, filter, length, map, nat_eq, MatchResult};
+ghost use Rattle.std.specs.Prelude.{◌≡◌, List, codes, filter, length, map, nat_eq, IfOk, MatchResult};
 ghost use Rattle.std.specs.List.{All, starts_with};
 ghost use Rattle.office_rules.specs.Certificates.{tabbed};
 ghost use Rattle.office_evidence.specs.Parsed.{IsWellFormedLine, IsWellFormedSpent, columns_of, spent_columns};
@@ -15,8 +15,9 @@ use std::alloc::Global;
 /// The line of an entry with these words.
 fn entry_of(alloc: Global, words: &[&str]) -> Result<EntryLine, Unread>
     requires { length words.now ≡ 11 }
-    ensures { (it : EntryLine) → IsWellFormedLine it
+    ensures every { (it : EntryLine) → IsWellFormedLine it
         → map (λ word. word.now) words.now ≡ columns_of it → Gives result it }
+    ensures formed { IfOk result IsWellFormedLine }
 {
     let record_no = number_in(words[1]).ok_or(Unread::NotThere)?;
     let outcome = outcome_in(words[2]).ok_or(Unread::NotThere)?;
@@ -28,7 +29,7 @@ fn entry_of(alloc: Global, words: &[&str]) -> Result<EntryLine, Unread>
     let confirmed_by = text_in(alloc, words[8])?;
     let length = number_in(words[9]).ok_or(Unread::NotThere)?;
     let digest = read_digest(words[10]).ok_or(Unread::NotThere)?;
-    Ok(EntryLine {
+    let line = EntryLine {
         record_no,
         outcome,
         ref_text,
@@ -39,13 +40,16 @@ fn entry_of(alloc: Global, words: &[&str]) -> Result<EntryLine, Unread>
         confirmed_by,
         length,
         digest,
-    })
+    };
+    line.formed();
+    Ok(line)
 }
 
 /// The line of an entry.
 fn read_entry(alloc: Global, line: &str) -> Result<EntryLine, Unread>
-    ensures { (it : EntryLine) → IsWellFormedLine it → line.now ≡ tabbed (columns_of it)
+    ensures every { (it : EntryLine) → IsWellFormedLine it → line.now ≡ tabbed (columns_of it)
         → Gives result it }
+    ensures formed { IfOk result IsWellFormedLine }
 {
     let words = parts(alloc, line, '\t')?;
     if words.len() != 11 {
@@ -57,18 +61,22 @@ fn read_entry(alloc: Global, line: &str) -> Result<EntryLine, Unread>
 /// The line of a spent aggregation with these words.
 fn spent_of(alloc: Global, words: &[&str]) -> Result<SpentLine, Unread>
     requires { length words.now ≡ 3 }
-    ensures { (it : SpentLine) → IsWellFormedSpent it
+    ensures every { (it : SpentLine) → IsWellFormedSpent it
         → map (λ word. word.now) words.now ≡ spent_columns it → Gives result it }
+    ensures formed { IfOk result IsWellFormedSpent }
 {
     let number = number_in(words[1]).ok_or(Unread::NotThere)?;
     let ref_text = text_in(alloc, words[2])?;
-    Ok(SpentLine { number, ref_text })
+    let spent = SpentLine { number, ref_text };
+    spent.formed();
+    Ok(spent)
 }
 
 /// The line of a spent aggregation.
 fn read_spent(alloc: Global, line: &str) -> Result<SpentLine, Unread>
-    ensures { (it : SpentLine) → IsWellFormedSpent it → line.now ≡ tabbed (spent_columns it)
+    ensures every { (it : SpentLine) → IsWellFormedSpent it → line.now ≡ tabbed (spent_columns it)
         → Gives result it }
+    ensures formed { IfOk result IsWellFormedSpent }
 {
     let words = parts(alloc, line, '\t')?;
     if words.len() != 3 {
@@ -93,10 +101,11 @@ fn is_spent(line: &str) -> bool
 
 /// The lines of entries among these.
 pub(crate) fn entries_in(alloc: Global, lines: &[&str]) -> Result<Vec<EntryLine>, Unread>
-    ensures { (them : List EntryLine) → All IsWellFormedLine them
+    ensures every { (them : List EntryLine) → All IsWellFormedLine them
         → filter (λ line. starts_with nat_eq line (codes "ENTRY")) (map (λ line. line.now) lines.now)
         ≡ map (λ it. tabbed (columns_of it)) them
         → MatchResult result (λ read. read.items ≡ them) (λ e. e ≡ Unread.Memory) }
+    ensures formed { IfOk result (λ read. All IsWellFormedLine read.items) }
 {
     let mut entries = Vec::new(alloc);
     for line in lines {
@@ -109,11 +118,12 @@ pub(crate) fn entries_in(alloc: Global, lines: &[&str]) -> Result<Vec<EntryLine>
 
 /// The lines of spent aggregations among these.
 pub(crate) fn spent_in(alloc: Global, lines: &[&str]) -> Result<Vec<SpentLine>, Unread>
-    ensures { (them : List SpentLine) → All IsWellFormedSpent them
+    ensures every { (them : List SpentLine) → All IsWellFormedSpent them
         → filter (λ line. starts_with nat_eq line (codes "AGGREGATION"))
         (map (λ line. line.now) lines.now)
         ≡ map (λ it. tabbed (spent_columns it)) them
         → MatchResult result (λ read. read.items ≡ them) (λ e. e ≡ Unread.Memory) }
+    ensures formed { IfOk result (λ read. All IsWellFormedSpent read.items) }
 {
     let mut spent = Vec::new(alloc);
     for line in lines {

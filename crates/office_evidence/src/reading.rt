@@ -9,6 +9,7 @@ ghost use Rattle.office_evidence.specs.Reading.{Gives};
 ghost use Rattle.office_evidence.specs.Parsed.{Certificate, IsTextOf, IsWellFormedCertificate, lines_of, parsed, seal_of, text_of};
 
 use crate::ParsedCertificate;
+use crate::forms::{well_formed_day, well_formed_number, well_formed_text};
 use crate::lines::{entries_in, spent_in};
 use crate::words::{Unread, day_in, number_in, parts, reported, text_in};
 use office_base::Memory;
@@ -45,15 +46,19 @@ fn opener_in(alloc: Global, line: &str) -> Result<Text, Unread>
 /// The certificate of these lines.
 fn certificate_of(alloc: Global, lines: &[&str]) -> Result<ParsedCertificate, Unread>
     requires { 3 ≤ length lines.now }
-    ensures { (c : Certificate) → IsWellFormedCertificate c
+    ensures every { (c : Certificate) → IsWellFormedCertificate c
         → map (λ line. line.now) lines.now ≡ (lines_of c ++ seal_of c ∷ []) ++ [] ∷ []
         → MatchResult result (λ it. parsed it ≡ c) (λ e. e ≡ Unread.Memory) }
+    ensures formed { IfOk result (λ it. IsWellFormedCertificate (parsed it)) }
 {
     let run = run_in(lines[0])?;
     let day = day_of(lines[1])?;
     let by = opener_in(alloc, lines[2])?;
     let entries = entries_in(alloc, lines)?;
     let spent = spent_in(alloc, lines)?;
+    well_formed_number(run);
+    well_formed_day(day);
+    well_formed_text(&by);
     Ok(ParsedCertificate {
         run,
         day,
@@ -65,8 +70,9 @@ fn certificate_of(alloc: Global, lines: &[&str]) -> Result<ParsedCertificate, Un
 
 /// What the text would be the certificate of, if it is one.
 fn parse(alloc: Global, text: &str) -> Result<ParsedCertificate, Unread>
-    ensures { (c : Certificate) → IsTextOf c text.now
+    ensures every { (c : Certificate) → IsTextOf c text.now
         → MatchResult result (λ it. parsed it ≡ c) (λ e. e ≡ Unread.Memory) }
+    ensures formed { IfOk result (λ it. IsWellFormedCertificate (parsed it)) }
 {
     let lines = parts(alloc, text, '\n')?;
     if lines.len() < 3 {
@@ -81,8 +87,9 @@ fn compared(
     it: ParsedCertificate,
     text: &str,
 ) -> Result<Option<ParsedCertificate>, Memory>
+    requires { IsWellFormedCertificate (parsed it) }
     ensures exact { IfOk result
-        (λ read. IfSome read (λ same. text.now ≡ text_of (parsed same))) }
+        (λ read. IfSome read (λ same. IsTextOf (parsed same) text.now)) }
     ensures every { text.now ≡ text_of (parsed it) → IfOk result (λ read. read ≡ Some it) }
 {
     let written = it.text(alloc)?;
@@ -93,11 +100,11 @@ fn compared(
 }
 
 /// The certificate whose text this is, exactly as an office writes it, to the last byte and with
-/// the digest of all bytes above it; `None` if the text is that of no certificate. `Memory` if
-/// there is none for it.
+/// the digest of all bytes above it; `None` if the text is that of no certificate. What is read is
+/// well-formed. `Memory` if there is none for it.
 pub fn read_certificate(alloc: Global, text: &str) -> Result<Option<ParsedCertificate>, Memory>
     ensures exact { IfOk result
-        (λ read. IfSome read (λ it. text.now ≡ text_of (parsed it))) }
+        (λ read. IfSome read (λ it. IsTextOf (parsed it) text.now)) }
     ensures every { (c : Certificate) → IsTextOf c text.now
         → IfOk result (λ read. option_map parsed read ≡ Some c) }
 {

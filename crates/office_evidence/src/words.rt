@@ -13,6 +13,7 @@ ghost use Rattle.office_rules.specs.declared.outcome.Outcome.{Outcome};
 ghost use Rattle.office_evidence.specs.Parsed.{IsHoldOf};
 ghost use Rattle.office_evidence.specs.Reading.{Gives};
 
+use crate::forms::well_formed_code;
 use jiff::civil::Date;
 use office_base::Memory;
 use office_days::{Day, DueDay};
@@ -130,11 +131,14 @@ pub(crate) fn code_in(alloc: Global, word: &str) -> Result<Code, Unread>
 
 /// The hold that a word names: of a skipped record alone.
 pub(crate) fn hold_in(alloc: Global, outcome: Outcome, word: &str) -> Result<Option<Code>, Unread>
-    ensures { (hold : Option (List ℕ)) → IsHoldOf outcome hold
+    ensures every { (hold : Option (List ℕ)) → IsHoldOf outcome hold
         → word.now ≡ unwrap_or hold (codes "-") → Gives result hold }
+    ensures formed { IfOk result (λ hold. IsHoldOf outcome hold) }
 {
     if !outcome.is_skipping() {
         return Ok(None);
     }
-    Ok(Some(code_in(alloc, word)?))
+    let hold = code_in(alloc, word)?;
+    well_formed_code(&hold);
+    Ok(Some(hold))
 }

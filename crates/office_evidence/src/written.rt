@@ -1,77 +1,20 @@
 //! The text of a certificate that was read: what `read_certificate` compares with, byte for byte.
-ghost use Rattle.std.specs.Prelude.{◌≡◌, ℤ, ◌∷◌, ◌++◌, [], codes, count_by, length, map, IfOk, OnOk};
-ghost use Rattle.std.specs.Fmt.{decimal};
+ghost use Rattle.std.specs.Prelude.{◌≡◌, ◌∷◌, ◌++◌, [], codes, count_by, length, map, IfOk, OnOk};
 ghost use Rattle.std.specs.Option.{unwrap_or};
-ghost use Rattle.std.specs.Str.{IsUtf8};
 ghost use Rattle.std.specs.String.{string_bytes};
-ghost use Rattle.office_rules.specs.Certificates.{date_text, lines_text, sealed, tabbed};
+ghost use Rattle.office_rules.specs.Certificates.{lines_text, tabbed};
 ghost use Rattle.office_rules.specs.Outcomes.{is_ending, is_sending, is_skipping, outcome_word};
 ghost use Rattle.office_evidence.specs.Parsed.{columns_of, count_in, parsed, spent_columns, text_of};
 
 use crate::{EntryLine, ParsedCertificate, SpentLine};
 use office_base::Memory;
-use office_days::{Day, DueDay};
-use office_rules::digest_of;
+use office_proof::lines::{push_line, push_number, push_run};
+use office_proof::seal;
+use office_proof::words::{due_word, number_word};
 use std::alloc::Global;
 
-/// A number in decimal digits.
-fn number_word(alloc: Global, number: u64) -> Result<String, Memory>
-    ensures { IfOk result (λ word. string_bytes word ≡ decimal number) }
-{
-    Ok(format!(in alloc; "{number}")?)
-}
-
-/// The text of these bytes.
-fn text_of_bytes(alloc: Global, bytes: &[u8]) -> Result<String, Memory>
-    requires { IsUtf8 bytes.now }
-    ensures { IfOk result (λ text. string_bytes text ≡ bytes.now) }
-{
-    match std::str::from_utf8(bytes) {
-        Ok(text) => Ok(String::from_str(alloc, text)?),
-        Err(_) => unreachable!(),
-    }
-}
-
-/// A day as `2024-02-29`.
-#[tactic(auto, using(office_rules::proofs::DateBytes::date_is_text))]
-fn day_word(alloc: Global, day: Day) -> Result<String, Memory>
-    ensures { IfOk result (λ word. string_bytes word ≡ date_text day) }
-{
-    text_of_bytes(alloc, &day.text())
-}
-
-/// A due day as `2024-02-29`.
-#[tactic(auto, using(office_rules::proofs::DateBytes::date_is_text))]
-fn due_word(alloc: Global, due: DueDay) -> Result<String, Memory>
-    ensures { IfOk result (λ word. string_bytes word ≡ date_text due) }
-{
-    text_of_bytes(alloc, &due.text())
-}
-
-/// Appends a line of its kind and what it reports.
-fn push_line(text: &mut String, kind: &str, reported: &str) -> Result<(), Memory>
-    ensures { OnOk result
-        (string_bytes text.new
-        ≡ string_bytes text.old ++ lines_text ((kind.now ++ reported.now) ∷ [])) }
-{
-    text.push_str(kind)?;
-    text.push_str(reported)?;
-    text.push_str("\n")?;
-    Ok(())
-}
-
-/// Appends a line of its kind and a number.
-fn push_number(alloc: Global, text: &mut String, kind: &str, number: u64) -> Result<(), Memory>
-    ensures { OnOk result
-        (string_bytes text.new
-        ≡ string_bytes text.old ++ lines_text ((kind.now ++ decimal number) ∷ [])) }
-{
-    let word = number_word(alloc, number)?;
-    push_line(text, kind, word.as_str())
-}
-
 /// Appends a line of these words, with a tab between each two.
-#[tactic(auto, using(crate::proofs::Joining::joined_is))]
+#[tactic(auto, using(office_proof::proofs::Texts::joined_is))]
 fn push_words(alloc: Global, text: &mut String, words: &[&str]) -> Result<(), Memory>
     ensures { OnOk result
         (string_bytes text.new
@@ -80,22 +23,6 @@ fn push_words(alloc: Global, text: &mut String, words: &[&str]) -> Result<(), Me
 {
     let line = words.join(alloc, "\t")?;
     push_line(text, "", line.as_str())
-}
-
-/// Appends the lines of the run itself.
-fn push_run(alloc: Global, text: &mut String, it: &ParsedCertificate) -> Result<(), Memory>
-    ensures { OnOk result
-        (string_bytes text.new
-        ≡ string_bytes text.old
-        ++ lines_text ((codes "CERTIFICATE " ++ decimal it.now.run)
-        ∷ (codes "DAY " ++ date_text it.now.day)
-        ∷ (codes "BY " ++ it.now.by) ∷ [])) }
-{
-    push_number(alloc, text, "CERTIFICATE ", it.run as u64)?;
-    let day = day_word(alloc, it.day)?;
-    push_line(text, "DAY ", day.as_str())?;
-    push_line(text, "BY ", it.by.text())?;
-    Ok(())
 }
 
 /// How many of the lines end their record.
@@ -258,22 +185,13 @@ fn push_aggregations(alloc: Global, text: &mut String, spent: &[SpentLine]) -> R
     Ok(())
 }
 
-/// Appends the last line: the digest of the text so far.
-fn seal(alloc: Global, text: &mut String) -> Result<(), Memory>
-    ensures { OnOk result (string_bytes text.new ≡ sealed (string_bytes text.old)) }
-{
-    let digest = digest_of(text.as_bytes());
-    let digits = hex::encode(alloc, &digest)?;
-    push_line(text, "SHA256 ", digits.as_str())
-}
-
 impl ParsedCertificate {
     /// The text of the certificate, which `read_certificate` takes back.
     pub fn text(&self, alloc: Global) -> Result<String, Memory>
         ensures { IfOk result (λ text. string_bytes text ≡ text_of (parsed self.now)) }
     {
         let mut text = String::new(alloc);
-        push_run(alloc, &mut text, self)?;
+        push_run(alloc, &mut text, self.run, self.day, &self.by)?;
         push_counts(alloc, &mut text, &self.entries)?;
         push_entries(alloc, &mut text, &self.entries)?;
         push_number(alloc, &mut text, "SPENT ", self.spent.len() as u64)?;

@@ -9,8 +9,8 @@ use Rattle.office_http.specs.declared.request_plan.RequestPlan.{RequestPlan}
 use Rattle.office_http.specs.declared.request_plan.RequestPlan.TheVariants.{Acts, Refuse, Serve}
 use Rattle.office_http.specs.declared.path_request.PathRequest.{PathRequest}
 use Rattle.office_http.specs.declared.request.ParsedRequest.{ParsedRequest}
-use Rattle.office_http.specs.declared.request.Operation.{Operation}
-use Rattle.office_http.specs.declared.request.Operation.TheVariants as operation
+use Rattle.office_http.specs.declared.request.RequestKind.{RequestKind}
+use Rattle.office_http.specs.declared.request.RequestKind.TheVariants as kind
 use Rattle.office_http.specs.declared.request.Received.{Received}
 use Rattle.office_http.specs.declared.request.Received.TheVariants as received
 use Rattle.office_http.specs.declared.request.ReceiveStop.{ReceiveStop}
@@ -18,41 +18,43 @@ use Rattle.office_http.specs.declared.request.ReceiveStop.TheVariants as stop
 
 -- what is asked of the office: nothing, since a check of the head fails or the body is cut; the acts of a body; or what
 -- the path says
-pub data Wanted : Type 0 where
-  refused : Rejection → Wanted
-  cut : Wanted
-  acts : List ℕ → Wanted
-  requested : PathRequest → Wanted
+pub data OfficeRequest : Type 0 where
+  refused : Rejection → OfficeRequest
+  cut : OfficeRequest
+  acts : List ℕ → OfficeRequest
+  requested : PathRequest → OfficeRequest
 
 -- the body of acts, where so many bytes are there; those after it do not matter
-abbrev pub body_wanted : ℕ → List ℕ → Wanted
-body_wanted size rest = if nat_lt (length rest) size then cut else acts (take size rest)
+abbrev pub request_of_body : ℕ → List ℕ → OfficeRequest
+request_of_body size rest = if nat_lt (length rest) size then cut else acts (take size rest)
 
-abbrev pub plan_wanted : RequestPlan → List ℕ → Wanted
-plan_wanted (Refuse check) rest = refused check
-plan_wanted (Acts size) rest = body_wanted size rest
-plan_wanted (Serve request) rest = requested request
+abbrev pub request_of_plan : RequestPlan → List ℕ → OfficeRequest
+request_of_plan (Refuse check) rest = refused check
+request_of_plan (Acts size) rest = request_of_body size rest
+request_of_plan (Serve request) rest = requested request
 
 -- what a head and the bytes after it ask for
-abbrev pub wanted : RequestHead → List ℕ → Wanted
-wanted h rest = plan_wanted (plan_at h) rest
+abbrev pub office_request : RequestHead → List ℕ → OfficeRequest
+office_request h rest = request_of_plan (plan_at h) rest
 
 -- ---- what the code answers
 
--- what was received, as it is wanted
-abbrev pub operation_wanted : Operation → Wanted
-operation_wanted (operation.Refused check) = refused check
-operation_wanted operation.Cut = cut
-operation_wanted (operation.Acts body) = acts body
-operation_wanted (operation.Serve request) = requested request
+-- what was received, as a request of the office
+abbrev pub request_of_kind : RequestKind → OfficeRequest
+request_of_kind (kind.Refused check) = refused check
+request_of_kind kind.Cut = cut
+request_of_kind (kind.Acts body) = acts body
+request_of_kind (kind.Serve request) = requested request
 
 -- what was received is what these bytes and all that the reader had left ask for
-abbrev pub IsOperationWanted : {E : Type 0} → (List ℕ → Wanted) → List ℕ → Option (List ℕ) → Result Operation E → Type 0
-IsOperationWanted wanted_of read left result = IfOk result (λ it. IfSome left (λ rest. operation_wanted it ≡ wanted_of (read ++ rest)))
+abbrev pub IsRequestRead : {E : Type 0} → (List ℕ → OfficeRequest) → List ℕ → Option (List ℕ) → Result RequestKind E
+    → Type 0
+IsRequestRead request_of read left result =
+    IfOk result (λ it. IfSome left (λ rest. request_of_kind it ≡ request_of (read ++ rest)))
 
 -- of a head and the bytes after it: what they ask for, and whether the head of the answer alone is written
 pub record IsParsedFrom (h : RequestHead) (rest : List ℕ) (it : ParsedRequest) : Type 0 where
-  pub wanted : operation_wanted it.operation ≡ wanted h rest
+  pub request : request_of_kind it.kind ≡ office_request h rest
   pub is_head : it.is_head ≡ is_head_method h.method
 
 -- what was received is what all bytes are

@@ -2,8 +2,8 @@
 use Rattle.std.specs.Prelude.{ℕ, List, [], ◌∷◌, ◌++◌, codes, decimal, length, Bool, if◌then◌else◌, string_bytes}
 use Rattle.office_http.specs.declared.rejection.Rejection.{Rejection}
 use Rattle.office_http.specs.declared.rejection.Rejection.TheVariants as rejections
-use Rattle.office_http.specs.declared.failure.Failure.{Failure}
-use Rattle.office_http.specs.declared.failure.Failure.TheVariants as failures
+use Rattle.office_http.specs.declared.request_error.RequestError.{RequestError}
+use Rattle.office_http.specs.declared.request_error.RequestError.TheVariants as errors
 use Rattle.office_http.specs.declared.status.Status.{Status}
 use Rattle.office_http.specs.declared.status.Status.TheVariants as statuses
 use Rattle.office_http.specs.declared.reply.Allow.{Allow}
@@ -99,29 +99,29 @@ abbrev pub response_text : Bool → Response → List ℕ
 response_text is_head r = if is_head then response_head r else response_head r ++ r.body
 
 -- an answer that names an error by a word
-abbrev pub error_response : Status → Allow → List ℕ → Response
-error_response status allow word =
+abbrev pub error_word_response : Status → Allow → List ℕ → Response
+error_word_response status allow word =
     record { status = status; media_type = media_types.Json; allow = allow; body = codes "{\"error\":\"" ++ word ++ codes "\"}" }
 
 -- the answer where a check of the head fails
 unfoldable pub check_response : Rejection → Response
-check_response rejections.Host = error_response statuses.BadRequest allows.Absent (codes "host")
-check_response rejections.Path = error_response statuses.NotFound allows.Absent (codes "path")
-check_response rejections.NotGet = error_response statuses.MethodNotAllowed allows.Get (codes "method")
-check_response rejections.NotPost = error_response statuses.MethodNotAllowed allows.Post (codes "method")
-check_response rejections.TransferCoding = error_response statuses.NotImplemented allows.Absent (codes "coding")
-check_response rejections.LengthMissing = error_response statuses.LengthRequired allows.Absent (codes "length")
-check_response rejections.LengthInvalid = error_response statuses.BadRequest allows.Absent (codes "length")
-check_response rejections.ContentTooLarge = error_response statuses.PayloadTooLarge allows.Absent (codes "size")
+check_response rejections.Host = error_word_response statuses.BadRequest allows.Absent (codes "host")
+check_response rejections.Path = error_word_response statuses.NotFound allows.Absent (codes "path")
+check_response rejections.NotGet = error_word_response statuses.MethodNotAllowed allows.Get (codes "method")
+check_response rejections.NotPost = error_word_response statuses.MethodNotAllowed allows.Post (codes "method")
+check_response rejections.TransferCoding = error_word_response statuses.NotImplemented allows.Absent (codes "coding")
+check_response rejections.LengthMissing = error_word_response statuses.LengthRequired allows.Absent (codes "length")
+check_response rejections.LengthInvalid = error_word_response statuses.BadRequest allows.Absent (codes "length")
+check_response rejections.ContentTooLarge = error_word_response statuses.PayloadTooLarge allows.Absent (codes "size")
 
 -- the answer where anything else fails that needs no number reported
-unfoldable pub failure_response : Failure → Response
-failure_response failures.Head = error_response statuses.BadRequest allows.Absent (codes "head")
-failure_response failures.Body = error_response statuses.BadRequest allows.Absent (codes "body")
-failure_response failures.Json = error_response statuses.BadRequest allows.Absent (codes "json")
-failure_response failures.Memory = error_response statuses.ServiceUnavailable allows.Absent (codes "memory")
-failure_response failures.Record = error_response statuses.NotFound allows.Absent (codes "record")
-failure_response failures.Content = error_response statuses.NotFound allows.Absent (codes "content")
-failure_response failures.Certificate = error_response statuses.NotFound allows.Absent (codes "certificate")
-failure_response failures.Day = error_response statuses.BadRequest allows.Absent (codes "day")
-failure_response failures.Count = error_response statuses.BadRequest allows.Absent (codes "count")
+unfoldable pub error_response : RequestError → Response
+error_response errors.Head = error_word_response statuses.BadRequest allows.Absent (codes "head")
+error_response errors.Body = error_word_response statuses.BadRequest allows.Absent (codes "body")
+error_response errors.Json = error_word_response statuses.BadRequest allows.Absent (codes "json")
+error_response errors.Memory = error_word_response statuses.ServiceUnavailable allows.Absent (codes "memory")
+error_response errors.Record = error_word_response statuses.NotFound allows.Absent (codes "record")
+error_response errors.Content = error_word_response statuses.NotFound allows.Absent (codes "content")
+error_response errors.Certificate = error_word_response statuses.NotFound allows.Absent (codes "certificate")
+error_response errors.Day = error_word_response statuses.BadRequest allows.Absent (codes "day")
+error_response errors.Count = error_word_response statuses.BadRequest allows.Absent (codes "count")

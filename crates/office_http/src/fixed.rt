@@ -1,11 +1,11 @@
-//! Replies of fixed bytes, for failed checks and for the other kinds of failure.
+//! Replies of fixed bytes, for failed checks and for other errors of a request.
 ghost use Rattle.std.specs.Prelude.{◌≡◌};
-ghost use Rattle.office_http.specs.Replies.{check_response, failure_response, response, Response};
+ghost use Rattle.office_http.specs.Replies.{check_response, error_response, response, Response};
 ghost use Rattle.office_http.specs.declared.reply.MediaType.TheVariants.{Json};
 
-use crate::failure::Failure;
 use crate::rejection::Rejection;
 use crate::reply::{Allow, Body, MediaType, Reply};
+use crate::request_error::RequestError;
 use crate::status::Status;
 
 /// An answer of fixed bytes.
@@ -63,27 +63,27 @@ pub fn check_reply(check: Rejection) -> Reply
 }
 
 /// The answer where anything else fails. It takes no memory.
-#[tactic(auto, unfolding(crate::specs::Replies::failure_response))]
-pub fn failure_reply(failure: Failure) -> Reply
-    ensures { response result ≡ failure_response failure }
+#[tactic(auto, unfolding(crate::specs::Replies::error_response))]
+pub fn error_reply(error: RequestError) -> Reply
+    ensures { response result ≡ error_response error }
 {
-    match failure {
-        Failure::Head => fixed(Status::BadRequest, Allow::Absent, b"{\"error\":\"head\"}"),
-        Failure::Body => fixed(Status::BadRequest, Allow::Absent, b"{\"error\":\"body\"}"),
-        Failure::Json => fixed(Status::BadRequest, Allow::Absent, b"{\"error\":\"json\"}"),
-        Failure::Memory => fixed(
+    match error {
+        RequestError::Head => fixed(Status::BadRequest, Allow::Absent, b"{\"error\":\"head\"}"),
+        RequestError::Body => fixed(Status::BadRequest, Allow::Absent, b"{\"error\":\"body\"}"),
+        RequestError::Json => fixed(Status::BadRequest, Allow::Absent, b"{\"error\":\"json\"}"),
+        RequestError::Memory => fixed(
             Status::ServiceUnavailable,
             Allow::Absent,
             b"{\"error\":\"memory\"}",
         ),
-        Failure::Record => fixed(Status::NotFound, Allow::Absent, b"{\"error\":\"record\"}"),
-        Failure::Content => fixed(Status::NotFound, Allow::Absent, b"{\"error\":\"content\"}"),
-        Failure::Certificate => fixed(
+        RequestError::Record => fixed(Status::NotFound, Allow::Absent, b"{\"error\":\"record\"}"),
+        RequestError::Content => fixed(Status::NotFound, Allow::Absent, b"{\"error\":\"content\"}"),
+        RequestError::Certificate => fixed(
             Status::NotFound,
             Allow::Absent,
             b"{\"error\":\"certificate\"}",
         ),
-        Failure::Day => fixed(Status::BadRequest, Allow::Absent, b"{\"error\":\"day\"}"),
-        Failure::Count => fixed(Status::BadRequest, Allow::Absent, b"{\"error\":\"count\"}"),
+        RequestError::Day => fixed(Status::BadRequest, Allow::Absent, b"{\"error\":\"day\"}"),
+        RequestError::Count => fixed(Status::BadRequest, Allow::Absent, b"{\"error\":\"count\"}"),
     }
 }

@@ -5,12 +5,12 @@
 //! reports what is done for it: the first check that fails, as a [`Rejection`], or what is asked
 //! for: the acts of a body, or a [`PathRequest`]. It looks the path up in [`Routes`], which are made
 //! once. [`read_body`] reads the body that a head announces. The answer is a [`Reply`], and
-//! [`write_reply`] writes it; [`check_reply`] and [`failure_reply`] give the answers whose bytes are
+//! [`write_reply`] writes it; [`check_reply`] and [`error_reply`] give the answers whose bytes are
 //! fixed. What is asked for is done by others, who know the office: here are heads, fields, paths
 //! and lengths alone.
 //!
-//! [`receive`] reads all of a request from a stream, within its limits: what it asks for is an
-//! [`Operation`], and the bytes of its acts are an [`ActsBody`], of which no act is looked at yet.
+//! [`receive`] reads all of a request from a stream, within its limits: what it asks for is a
+//! [`RequestKind`], and the bytes of its acts are an [`ActsBody`], of which no act is looked at yet.
 //! [`DeadlineStream`] is a side of a connection that has [`LONGEST`] seconds for all that is read of
 //! it, or written to it.
 #![tactic(auto)]
@@ -18,7 +18,6 @@
 mod acts_body;
 mod body;
 mod deadline;
-mod failure;
 mod fields;
 mod fixed;
 mod head;
@@ -30,20 +29,21 @@ mod rejection;
 mod reply;
 mod reply_text;
 mod request;
+mod request_error;
 mod request_plan;
 mod status;
 
 pub use acts_body::ActsBody;
 pub use body::read_body;
 pub use deadline::{DeadlineStream, LONGEST};
-pub use failure::Failure;
-pub use fixed::{check_reply, failure_reply};
+pub use fixed::{check_reply, error_reply};
 pub use head::{Head, LONGEST_HEAD, MOST_FIELDS, law_of_requests, read_head};
 pub use path_request::PathRequest;
 pub use paths::Routes;
 pub use rejection::Rejection;
 pub use reply::{Allow, Body, MediaType, Reply};
 pub use reply_text::{law_of_replies, write_reply};
-pub use request::{Operation, ParsedRequest, ReceiveStop, Received, receive};
+pub use request::{ParsedRequest, ReceiveStop, Received, RequestKind, receive};
+pub use request_error::RequestError;
 pub use request_plan::{RequestPlan, is_head_in, plan_in};
 pub use status::Status;

@@ -4,7 +4,7 @@ ghost use Rattle.httparse.specs.Grammar.{RequestHead};
 ghost use Rattle.httparse.specs.Spans.{IsRequestAt};
 ghost use Rattle.office_http.specs.RequestPlans.{IsSized};
 ghost use Rattle.office_http.specs.Requests.{IsHeadAt};
-ghost use Rattle.office_http.specs.Receiving.{IsOperationWanted, IsParsedFrom, IsOutOfMemoryFor, Receives, body_wanted, plan_wanted};
+ghost use Rattle.office_http.specs.Receiving.{IsRequestRead, IsParsedFrom, IsOutOfMemoryFor, Receives, request_of_body, request_of_plan};
 
 use crate::acts_body::ActsBody;
 use crate::body::read_body;
@@ -20,7 +20,7 @@ use std::io::Read;
 
 /// What a request asks for.
 #[derive(Drop)]
-pub enum Operation {
+pub enum RequestKind {
     /// Nothing, since a check of its head fails.
     Refused(Rejection),
     /// Nothing, since the connection ends before the body does.
@@ -35,7 +35,7 @@ pub enum Operation {
 #[derive(Drop)]
 pub struct ParsedRequest {
     /// What it asks for.
-    pub operation: Operation,
+    pub kind: RequestKind,
     /// Whether its method is HEAD, so that the head of the answer alone is written.
     pub is_head: bool,
 }
@@ -68,17 +68,18 @@ fn receive_acts<R: Read>(
     mut buf: Vec<u8>,
     start: usize,
     size: u64,
-) -> Result<Operation, Stop>
+) -> Result<RequestKind, Stop>
     requires start_in { start ≤ length buf.items }
     requires small { start ≤ 16_384 }
     requires limit { size ≤ 1_048_576 }
-    ensures { IsOperationWanted (body_wanted size) (drop start buf.items) (R.remaining reader.old) result }
+    ensures { IsRequestRead (request_of_body size) (drop start buf.items)
+        (R.remaining reader.old) result }
 {
     let end = start + size as usize;
     if read_body(reader, &mut buf, start, end)? {
-        Ok(Operation::Acts(ActsBody::new(buf, start, end)))
+        Ok(RequestKind::Acts(ActsBody::new(buf, start, end)))
     } else {
-        Ok(Operation::Cut)
+        Ok(RequestKind::Cut)
     }
 }
 
@@ -88,19 +89,19 @@ fn receive_planned<R: Read>(
     buf: Vec<u8>,
     start: usize,
     plan: RequestPlan,
-) -> Result<Operation, Stop>
+) -> Result<RequestKind, Stop>
     requires start_in { start ≤ length buf.items }
     requires small { start ≤ 16_384 }
     requires sized { IsSized plan }
-    ensures wanted { IsOperationWanted (plan_wanted plan) (drop start buf.items) (R.remaining reader.old)
-        result }
+    ensures read { IsRequestRead (request_of_plan plan) (drop start buf.items)
+        (R.remaining reader.old) result }
     ensures memory { result ≡ Err Stop.Memory
         → (size : ℕ) × (plan ≡ RequestPlan.Acts size) }
 {
     match plan {
-        RequestPlan::Refuse(check) => Ok(Operation::Refused(check)),
+        RequestPlan::Refuse(check) => Ok(RequestKind::Refused(check)),
         RequestPlan::Acts(size) => receive_acts(reader, buf, start, size),
-        RequestPlan::Serve(request) => Ok(Operation::Serve(request)),
+        RequestPlan::Serve(request) => Ok(RequestKind::Serve(request)),
     }
 }
 
@@ -124,7 +125,7 @@ fn receive_rest<R: Read>(
     let is_head = is_head_in(buf.as_slice(), head);
     let plan = plan_in(routes, buf.as_slice(), head, headers);
     match receive_planned(reader, buf, head.len, plan) {
-        Ok(operation) => Ok(ParsedRequest { operation, is_head }),
+        Ok(kind) => Ok(ParsedRequest { kind, is_head }),
         Err(Stop::Memory) => Err(ReceiveStop::MemoryForBody),
         Err(Stop::Io) => Err(ReceiveStop::Io),
     }

@@ -2,7 +2,7 @@
 ghost use Rattle.std.specs.Prelude.{◌≡◌, ◌++◌, length, Err, IfErr, IfOk, IfSome, IsSome, IsTrue, None, OnOk};
 ghost use Rattle.std.specs.Io.KnownBytes.{Appends};
 ghost use Rattle.std.specs.Str.Lines.{lines};
-ghost use Rattle.office_records.specs.Tree.{has_record};
+ghost use Rattle.office_records.specs.Tree.{empty_tree, has_record};
 ghost use Rattle.office_plan.specs.PlanFile.{due_line, due_lines, due_word, plan_asked, plan_from, plan_refusal, plan_written, plan_result};
 
 use crate::lines::next_line;
@@ -73,6 +73,31 @@ fn lines_of(alloc: Global, tree: &Tree) -> Result<Vec<u8>, AllocError>
     Ok(out)
 }
 
+/// The lines of all records of a plan file, which an empty tree takes, or the first line that is
+/// refused, and why.
+fn lines_in(
+    alloc: Global,
+    tree: &mut Tree,
+    bytes: &[u8],
+) -> Result<Result<Vec<u8>, (u64, Refusal)>, Memory>
+    requires { tree.old ≡ empty_tree }
+    ensures lines { IfOk result
+        (λ reported. IfOk reported
+        (λ lines. (plan_refusal (plan_asked bytes.now) ≡ None)
+        × (lines.items ≡ plan_written (plan_asked bytes.now)))) }
+    ensures refused { IfOk result
+        (λ reported. IfErr reported (λ refused. plan_asked bytes.now ≡ Err refused)) }
+{
+    match take_lines(alloc, tree, bytes) {
+        Ok(None) => match lines_of(alloc, tree) {
+            Ok(lines) => Ok(Ok(lines)),
+            Err(_) => Err(Memory),
+        },
+        Ok(Some(refused)) => Ok(Err(refused)),
+        Err(Memory) => Err(Memory),
+    }
+}
+
 /// The lines of all records of a plan file, or the first line that is refused, and why.
 fn lines_asked(alloc: Global, bytes: &[u8]) -> Result<Result<Vec<u8>, (u64, Refusal)>, Memory>
     ensures lines { IfOk result
@@ -83,14 +108,7 @@ fn lines_asked(alloc: Global, bytes: &[u8]) -> Result<Result<Vec<u8>, (u64, Refu
         (λ reported. IfErr reported (λ refused. plan_asked bytes.now ≡ Err refused)) }
 {
     let mut tree = Tree::new(alloc);
-    match take_lines(alloc, &mut tree, bytes) {
-        Ok(None) => match lines_of(alloc, &tree) {
-            Ok(lines) => Ok(Ok(lines)),
-            Err(_) => Err(Memory),
-        },
-        Ok(Some(refused)) => Ok(Err(refused)),
-        Err(Memory) => Err(Memory),
-    }
+    lines_in(alloc, &mut tree, bytes)
 }
 
 /// `office plan FILE`: reads a plan file to its end and then writes, for each of its records, the

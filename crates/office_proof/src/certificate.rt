@@ -70,7 +70,7 @@ pub fn entry_line(alloc: Global, entry: &Entry, head: &Record) -> Result<String,
 }
 
 /// Appends the last line: the digest of the text so far.
-fn seal(alloc: Global, text: &mut String) -> Result<(), Memory>
+pub fn seal(alloc: Global, text: &mut String) -> Result<(), Memory>
     ensures { OnOk result (string_bytes text.new ≡ sealed (string_bytes text.old)) }
 {
     let digest = digest_of(text.as_bytes());

@@ -8,12 +8,13 @@
 //!
 //! Not the proofs of this house: the evidence that its user keeps. The types and the definitions
 //! are in `office_rules`; here are the line of an entry and the text of a certificate.
+//! `office_evidence` writes a certificate that was read by the same [`lines`] and [`words`].
 #![tactic(auto)]
 
 mod certificate;
 pub mod laws;
-mod lines;
-mod words;
+pub mod lines;
+pub mod words;
 
-pub use certificate::{certificate_text, entry_line};
+pub use certificate::{certificate_text, entry_line, seal};
 pub use office_rules::{Entry, Outcome, RunNo, digest_of, read_digest};

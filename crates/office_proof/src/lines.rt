@@ -17,7 +17,7 @@ use office_tree::Tree;
 use std::alloc::Global;
 
 /// Appends a line of its kind and what it reports.
-pub(crate) fn push_line(text: &mut String, kind: &str, reported: &str) -> Result<(), Memory>
+pub fn push_line(text: &mut String, kind: &str, reported: &str) -> Result<(), Memory>
     ensures { OnOk result
         (string_bytes text.new
         ≡ string_bytes text.old ++ lines_text ((kind.now ++ reported.now) ∷ [])) }
@@ -29,7 +29,7 @@ pub(crate) fn push_line(text: &mut String, kind: &str, reported: &str) -> Result
 }
 
 /// Appends a line of its kind and a number.
-fn push_number(alloc: Global, text: &mut String, kind: &str, number: u64) -> Result<(), Memory>
+pub fn push_number(alloc: Global, text: &mut String, kind: &str, number: u64) -> Result<(), Memory>
     ensures { OnOk result
         (string_bytes text.new
         ≡ string_bytes text.old ++ lines_text ((kind.now ++ decimal number) ∷ [])) }
@@ -49,7 +49,7 @@ fn push_day(alloc: Global, text: &mut String, day: Day) -> Result<(), Memory>
 }
 
 /// Appends the lines of the run itself.
-pub(crate) fn push_run(
+pub fn push_run(
     alloc: Global,
     text: &mut String,
     run: RunNo,

@@ -13,7 +13,7 @@ use office_days::{Day, DueDay};
 use std::alloc::Global;
 
 /// A number in decimal digits.
-pub(crate) fn number_word(alloc: Global, number: u64) -> Result<String, Memory>
+pub fn number_word(alloc: Global, number: u64) -> Result<String, Memory>
     ensures { IfOk result (λ word. string_bytes word ≡ decimal number) }
 {
     Ok(format!(in alloc; "{number}")?)
@@ -40,7 +40,7 @@ pub(crate) fn day_word(alloc: Global, day: Day) -> Result<String, Memory>
 
 /// A due day as `2024-02-29`.
 #[tactic(auto, using(office_rules::proofs::DateBytes::date_is_text))]
-pub(crate) fn due_word(alloc: Global, due: DueDay) -> Result<String, Memory>
+pub fn due_word(alloc: Global, due: DueDay) -> Result<String, Memory>
     ensures { IfOk result (λ word. string_bytes word ≡ date_text due) }
 {
     text_of(alloc, &due.text())

@@ -18,7 +18,6 @@ ghost use Rattle.office_store.specs.Taken.{TakesAll, TakesIn};
 
 use crate::Fault;
 use crate::columns::{day, has_columns};
-use crate::fault::{of_database, of_value};
 use crate::table_rows::{give, take_rows};
 use office_days::Day;
 use office_records::{AggNo, Aggregation, Class, Code, Event, HoldRow, RecordNo, Schedule, Target};
@@ -87,7 +86,7 @@ fn no_row<S: Alter>(conn: &mut Connection<S>, table: OfficeTable) -> Result<(), 
     ensures shield { (state S.Store conn.old).IsShielded → (state S.Store conn.new).IsShielded }
     ensures mode { conn.old.in_transaction ≡ false → conn.new.in_transaction ≡ false }
 {
-    let rows = all_rows(conn, table).map_err(of_database)?;
+    let rows = all_rows(conn, table)?;
     if !rows.is_empty() {
         return Err(Fault::Damaged);
     }
@@ -215,7 +214,7 @@ fn office_day<S: Alter>(conn: &mut Connection<S>) -> Result<(Edition, Day), Faul
         → ⊥) }
     ensures mode { conn.old.in_transaction ≡ false → conn.new.in_transaction ≡ false }
 {
-    let rows = all_rows(conn, OfficeTable::Office).map_err(of_database)?;
+    let rows = all_rows(conn, OfficeTable::Office)?;
     day_of(&rows)
 }
 
@@ -240,11 +239,11 @@ fn day_of(rows: &[Row]) -> Result<(Edition, Day), Fault>
         return Err(Fault::Damaged);
     };
     let edition = edition_in(row)?;
-    has_columns(row, 3).map_err(of_value)?;
+    has_columns(row, 3)?;
     if number(row, 0) != Ok(1) {
         return Err(Fault::Damaged);
     }
-    Ok((edition, day(row, 2).map_err(of_value)?))
+    Ok((edition, day(row, 2)?))
 }
 
 // The version in a row of `office`; one of another version than 1 and 2 is refused.

@@ -1,10 +1,11 @@
 //! The public calls of the store, the desk, the wire and the program, each with the arguments that
 //! other programs give it: a change of one is seen here.
+use crate::failures::must;
 use crate::peer::Pieces;
-use office_base::Refusal;
+use office_base::{Memory, Refusal};
 use office_days::{ConfirmDays, Day};
 use office_desk::Desk;
-use office_machine::{Act, Answer, Builder, Decision, Machine, RecordView, Tables};
+use office_machine::{Act, Answer, Builder, Change, Decision, Machine, RecordView, Tables};
 use office_program::{Io, Order, PlanStop, due_to, plan_to, run_on};
 use office_proof::Entry;
 use office_records::{RecordNo, Text};
@@ -46,12 +47,29 @@ fn created(mut conn: Connection<MemStore>) -> Result<Store<MemStore>, Fail> {
     }
 }
 
+/// What a new office decides of an act.
+fn decided(alloc: Global, act: &Act) -> Result<Decision, Memory> {
+    Machine::new(alloc).decide(act)
+}
+
 /// `office_store`: a change is saved.
+fn kept(alloc: Global, store: &mut Store<MemStore>, change: &Change) -> Result<(), Fail> {
+    Ok(store.save(alloc, change)?)
+}
+
+/// The change that an act makes in a new office is saved.
 fn saved(alloc: Global, store: &mut Store<MemStore>, act: &Act) -> Result<(), Fail> {
-    if let Decision::Go(change) = Machine::new(alloc).decide(act)? {
-        store.save(alloc, &change)?;
+    match decided(alloc, act)? {
+        Decision::Go(change) => kept(alloc, store, &change),
+        _ => Ok(()),
     }
-    Ok(())
+}
+
+/// A run is opened.
+fn run_opened(alloc: Global, store: &mut Store<MemStore>, day: Day) -> Result<(), Fail> {
+    let by = Text::read(alloc, "registrar")?.ok_or("no name")?;
+    let act = Act::OpenRun { day, by };
+    saved(alloc, store, &act)
 }
 
 /// `office_store`: tables of the version before are migrated, and a content is read.
@@ -93,13 +111,29 @@ fn adopted_into(alloc: Global, conn: Connection<MemStore>) -> Result<Connection<
     }
 }
 
-/// `office_desk`: a list of acts, of which there is one.
-fn performed(alloc: Global, desk: &mut Desk<MemStore>) -> Result<Vec<Answer>, Fail> {
+/// `office_wire`: an act is read from JSON.
+fn act_read(alloc: Global) -> Result<Act, Fail> {
     let value: Value = Value::from_slice(alloc, "{\"act\":\"run-step\"}".as_bytes())?;
-    let act: Act = read_act(alloc, &value)?;
-    let mut answers: Vec<Answer> = Vec::new(alloc);
-    desk.perform_all(&[act], &mut answers)?;
-    Ok(answers)
+    Ok(read_act(alloc, &value)?)
+}
+
+/// `office_desk`: a list of acts.
+fn performed(
+    desk: &mut Desk<MemStore>,
+    acts: &[Act],
+    answers: &mut Vec<Answer>,
+) -> Result<(), Fail> {
+    Ok(desk.perform_all(acts, answers)?)
+}
+
+/// The same, of which there is one.
+fn step_performed(
+    alloc: Global,
+    desk: &mut Desk<MemStore>,
+    answers: &mut Vec<Answer>,
+) -> Result<(), Fail> {
+    let acts = [act_read(alloc)?];
+    performed(desk, &acts, answers)
 }
 
 /// `office_wire`: answers as JSON.
@@ -255,15 +289,14 @@ fn program(alloc: Global, conn: Connection<MemStore>) -> Result<(), Fail> {
     let (status, _): (u8, Connection<MemStore>) = run_on(
         alloc, conn, &order, &mut input, &mut out, &mut err,
     );
-    if status == 0 && out.as_slice() == "version 2\n".as_bytes() {
-        return Ok(());
-    }
-    Err(Fail::new("another status"))
+    let is_so = status == 0 && out.as_slice() == "version 2\n".as_bytes();
+    must(is_so, "init", "another status")
 }
 
 /// The calls of the desk that act.
 fn acts(alloc: Global, desk: &mut Desk<MemStore>) -> Result<(), Fail> {
-    let answers = performed(alloc, desk)?;
+    let mut answers: Vec<Answer> = Vec::new(alloc);
+    step_performed(alloc, desk, &mut answers)?;
     answered(alloc, answers.as_slice())?;
     resumed(desk)
 }
@@ -288,13 +321,56 @@ fn wire(alloc: Global, desk: &mut Desk<MemStore>, day: Day, days: ConfirmDays) -
     entries_exported(alloc, desk)
 }
 
-/// A connection to an office with a run that is open, taken over twice.
-fn office(alloc: Global, day: Day) -> Result<Connection<MemStore>, Fail> {
-    let by = Text::read(alloc, "registrar")?.ok_or("no name")?;
+/// A run is opened in an office, from which is then read.
+fn used(alloc: Global, store: &mut Store<MemStore>, day: Day) -> Result<(), Fail> {
+    run_opened(alloc, store, day)?;
+    read(store)
+}
+
+/// An office with a run that is open.
+fn office(alloc: Global, day: Day) -> Result<Store<MemStore>, Fail> {
     let mut store = created(idle(Connection::open_in_memory(alloc)?)?)?;
-    saved(alloc, &mut store, &Act::OpenRun { day, by })?;
-    read(&mut store)?;
-    adopted_into(alloc, adopted(alloc, store.release())?)
+    used(alloc, &mut store, day)?;
+    Ok(store)
+}
+
+/// A connection to it, taken over twice.
+fn taken_over(alloc: Global, day: Day) -> Result<Connection<MemStore>, Fail> {
+    adopted_into(alloc, adopted(alloc, office(alloc, day)?.release())?)
+}
+
+/// `office_desk`: a desk is opened.
+fn opened(alloc: Global, conn: Connection<MemStore>) -> Result<Desk<MemStore>, Fail> {
+    if !conn.is_autocommit() {
+        return Err(Fail::new("a transaction is under way"));
+    }
+    match Desk::open(alloc, conn) {
+        Ok(desk) => Ok(desk),
+        Err(_) => Err(Fail::new("not opened")),
+    }
+}
+
+/// The calls at a desk.
+fn at_desk(
+    alloc: Global,
+    desk: &mut Desk<MemStore>,
+    day: Day,
+    days: ConfirmDays,
+) -> Result<(), Fail> {
+    acts(alloc, desk)?;
+    readings(desk, day, days)?;
+    wire(alloc, desk, day, days)
+}
+
+/// The same, and the desk is closed.
+fn closed(
+    alloc: Global,
+    mut desk: Desk<MemStore>,
+    day: Day,
+    days: ConfirmDays,
+) -> Result<Connection<MemStore>, Fail> {
+    at_desk(alloc, &mut desk, day, days)?;
+    Ok(desk.close())
 }
 
 /// The calls, one after another.
@@ -303,15 +379,6 @@ pub(crate) fn call(alloc: Global) -> Result<(), Fail> {
         return Err(Fail::new("no day"));
     };
     computed(alloc)?;
-    let conn = office(alloc, day)?;
-    if !conn.is_autocommit() {
-        return Err(Fail::new("a transaction is under way"));
-    }
-    let Ok(mut desk) = Desk::open(alloc, conn) else {
-        return Err(Fail::new("not opened"));
-    };
-    acts(alloc, &mut desk)?;
-    readings(&mut desk, day, days)?;
-    wire(alloc, &mut desk, day, days)?;
-    program(alloc, desk.close())
+    let desk = opened(alloc, taken_over(alloc, day)?)?;
+    program(alloc, closed(alloc, desk, day, days)?)
 }

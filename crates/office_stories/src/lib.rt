@@ -71,11 +71,11 @@ mod damage_stories;
 #[cfg(test)]
 mod disks;
 #[cfg(test)]
-mod endings;
-#[cfg(test)]
 mod errands;
 #[cfg(test)]
 mod event_stories;
+#[cfg(test)]
+mod exits;
 #[cfg(test)]
 mod failures;
 #[cfg(test)]

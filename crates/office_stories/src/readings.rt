@@ -116,24 +116,45 @@ fn ending_text<S: Alter>(alloc: Global, desk: &Desk<S>, record_no: u32) -> Resul
     Ok(text)
 }
 
-/// What is read at the desk.
-fn read<S: Alter>(
-    alloc: Global,
-    desk: &mut Desk<S>,
-    reading: &str,
-) -> Result<Result<String, Fault>, Fail> {
-    match reading.split_once(' ') {
-        Some(("record", record_no)) => Ok(record_text(alloc, desk, number(record_no)?)),
-        Some(("ended", record_no)) => Ok(ending_text(alloc, desk, number(record_no)?)),
-        Some(("content", record_no)) => Ok(content_text(alloc, desk, number(record_no)?)),
-        Some(("certificate", run)) => Ok(certificate_text(alloc, desk, number(run)?)),
-        Some(("due-list", on)) => Ok(due_text(alloc, desk, Day::read(on).ok_or("no day")?)),
+/// What is read at a desk.
+#[derive(Clone, Copy)]
+enum Reading {
+    Record(u32),
+    Ending(u32),
+    Content(u32),
+    Certificate(u32),
+    Due(Day),
+    Overdue(Day, ConfirmDays),
+    Entries,
+}
+
+/// What words read.
+fn reading_of(words: &str) -> Result<Reading, Fail> {
+    match words.split_once(' ') {
+        Some(("record", record_no)) => Ok(Reading::Record(number(record_no)?)),
+        Some(("ended", record_no)) => Ok(Reading::Ending(number(record_no)?)),
+        Some(("content", record_no)) => Ok(Reading::Content(number(record_no)?)),
+        Some(("certificate", run)) => Ok(Reading::Certificate(number(run)?)),
+        Some(("due-list", on)) => Ok(Reading::Due(Day::read(on).ok_or("no day")?)),
         Some(("overdue-list", words)) => {
             let (day, days) = overdue_words(words).ok_or("no day, or no count of days")?;
-            Ok(overdue_text(alloc, desk, day, days))
+            Ok(Reading::Overdue(day, days))
         }
-        _ if reading == "entries" => Ok(entries_text(alloc, desk)),
-        _ => Err(failure("no such reading", reading)),
+        _ if words == "entries" => Ok(Reading::Entries),
+        _ => Err(failure("no such reading", words)),
+    }
+}
+
+/// What is read at the desk.
+fn read<S: Alter>(alloc: Global, desk: &mut Desk<S>, reading: Reading) -> Result<String, Fault> {
+    match reading {
+        Reading::Record(record_no) => record_text(alloc, desk, record_no),
+        Reading::Ending(record_no) => ending_text(alloc, desk, record_no),
+        Reading::Content(record_no) => content_text(alloc, desk, record_no),
+        Reading::Certificate(run) => certificate_text(alloc, desk, run),
+        Reading::Due(day) => due_text(alloc, desk, day),
+        Reading::Overdue(day, days) => overdue_text(alloc, desk, day, days),
+        Reading::Entries => entries_text(alloc, desk),
     }
 }
 
@@ -146,9 +167,10 @@ pub(crate) fn fault_text(alloc: Global, fault: Fault) -> Result<String, Fail> {
 pub(crate) fn reported<S: Alter>(
     alloc: Global,
     desk: &mut Desk<S>,
-    reading: &str,
+    words: &str,
 ) -> Result<String, Fail> {
-    match read(alloc, desk, reading)? {
+    let reading = reading_of(words)?;
+    match read(alloc, desk, reading) {
         Ok(text) => Ok(text),
         Err(fault) => fault_text(alloc, fault),
     }

@@ -2,7 +2,7 @@
 use crate::disks::{Image, Stop};
 use crate::errands::{Errand, done};
 use crate::failures::must;
-use crate::selections::selected;
+use crate::selections::{push_selected, selected};
 use sqlite::{Alter, Connection};
 use std::alloc::Global;
 use std::test::Fail;
@@ -20,6 +20,35 @@ fn names_of<S: Alter>(alloc: Global, conn: &mut Connection<S>, kind: &str) -> Re
     selected(alloc, conn, select.as_str())
 }
 
+/// Appends what these columns have of an object, with its name.
+fn push_object<S: Alter>(
+    alloc: Global,
+    conn: &mut Connection<S>,
+    text: &mut String,
+    name: &str,
+    columns: &str,
+) -> Result<(), Fail> {
+    let select = format!(in alloc; "SELECT {columns} FROM \"{name}\"")?;
+    push_selected(alloc, conn, text, name, select.as_str())
+}
+
+/// Appends what these columns have of each of the objects, a line for each.
+fn push_objects<S: Alter>(
+    alloc: Global,
+    conn: &mut Connection<S>,
+    text: &mut String,
+    names: &str,
+    columns: &str,
+) -> Result<(), Fail> {
+    if names == "none" {
+        return Ok(());
+    }
+    for name in names.split_terminator(';') {
+        push_object(alloc, conn, text, name, columns)?;
+    }
+    Ok(())
+}
+
 /// What these columns have of each other object of that kind, a line for each.
 fn rows_of<S: Alter>(
     alloc: Global,
@@ -27,17 +56,9 @@ fn rows_of<S: Alter>(
     kind: &str,
     columns: &str,
 ) -> Result<String, Fail> {
-    let mut text = String::new(alloc);
     let names = names_of(alloc, conn, kind)?;
-    if names.as_str() == "none" {
-        return Ok(text);
-    }
-    for name in names.as_str().split_terminator(';') {
-        let select = format!(in alloc; "SELECT {columns} FROM \"{name}\"")?;
-        let rows = selected(alloc, conn, select.as_str())?;
-        let line = format!(in alloc; "{name} {rows}\n")?;
-        text.push_str(line.as_str())?;
-    }
+    let mut text = String::new(alloc);
+    push_objects(alloc, conn, &mut text, names.as_str(), columns)?;
     Ok(text)
 }
 

@@ -73,18 +73,59 @@ pub(crate) fn selected<S: Alter>(
     }
 }
 
+/// Appends what a statement reads, with its name.
+pub(crate) fn push_selected<S: Alter>(
+    alloc: Global,
+    conn: &mut Connection<S>,
+    text: &mut String,
+    name: &str,
+    select: &str,
+) -> Result<(), Fail> {
+    let rows = selected(alloc, conn, select)?;
+    let line = format!(in alloc; "{name} {rows}\n")?;
+    Ok(text.push_str(line.as_str())?)
+}
+
+/// Appends the rows of a table, with its name.
+fn push_table<S: Alter>(
+    alloc: Global,
+    conn: &mut Connection<S>,
+    text: &mut String,
+    table: &str,
+) -> Result<(), Fail> {
+    let select = format!(in alloc; "SELECT * FROM {table}")?;
+    push_selected(alloc, conn, text, table, select.as_str())
+}
+
+/// Appends the rows of each table.
+fn push_tables<S: Alter>(
+    alloc: Global,
+    conn: &mut Connection<S>,
+    text: &mut String,
+) -> Result<(), Fail> {
+    for table in &TABLES {
+        push_table(alloc, conn, text, table)?;
+    }
+    Ok(())
+}
+
+/// Appends what else the file has.
+fn push_rest<S: Alter>(
+    alloc: Global,
+    conn: &mut Connection<S>,
+    text: &mut String,
+) -> Result<(), Fail> {
+    let rest = rest_and_views(alloc, conn)?;
+    Ok(text.push_str(rest.as_str())?)
+}
+
 /// All rows of the tables, each table with its name, and what else the file has.
 pub(crate) fn all_selected<S: Alter>(
     alloc: Global,
     conn: &mut Connection<S>,
 ) -> Result<String, Fail> {
     let mut text = String::new(alloc);
-    for table in TABLES {
-        let select = format!(in alloc; "SELECT * FROM {table}")?;
-        let rows = selected(alloc, conn, select.as_str())?;
-        let line = format!(in alloc; "{table} {rows}\n")?;
-        text.push_str(line.as_str())?;
-    }
-    text.push_str(rest_and_views(alloc, conn)?.as_str())?;
+    push_tables(alloc, conn, &mut text)?;
+    push_rest(alloc, conn, &mut text)?;
     Ok(text)
 }

@@ -3,8 +3,8 @@ use crate::archive_stories::ARCHIVE;
 use crate::calls::call;
 use crate::content_stories::CONTENTS;
 use crate::damage_stories::{BASE_DAMAGE, BUSY_DAMAGE};
-use crate::endings::report_endings;
 use crate::event_stories::{EVENTS, STOPPED_EVENTS};
+use crate::exits::report_exits;
 use crate::filing_stories::FILING;
 use crate::hold_stories::HOLDS;
 use crate::hostile_stories::{ELSEWHERE, HOSTILE};
@@ -74,7 +74,7 @@ fn damaged_tables_of_runs_are_reported(rt: HostRuntime) -> Result<(), Fail> {
 #[test]
 fn the_program_reports_what_it_did(rt: HostRuntime) -> Result<(), Fail> {
     report(rt.alloc(), PROGRAM)?;
-    report_endings(rt.alloc())
+    report_exits(rt.alloc())
 }
 
 #[test]

@@ -1,9 +1,10 @@
 -- Records are on the lists of their classes still as rows change.
-use Rattle.std.proofs.Common.{◌≡◌, ◌≢◌, ℕ, Bool, true, false, List, [], length, Option, Some, None, refl, sym, ap, ◌∙◌, subst, inl, inr, arith}
+use Rattle.std.proofs.Common.{◌≡◌, ◌≢◌, ◌+◌, ℕ, Bool, true, false, List, [], length, Option, Some, None, refl, sym, ap, ◌∙◌, subst, inl, inr, arith}
 use Rattle.std.specs.Prelude.{IsSome, ◌&&◌}
 use Rattle.std.specs.FinMap.{FinMap, empty, get, insert}
 use Rattle.std.specs.Option.{is_some, option_and_then}
 use Rattle.office_tree.specs.ClassIndex.{AreListed, HaveNumbers, IsOfClass, NumberMap}
+use Rattle.office_tree.specs.Derived.{AreExtended}
 use Rattle.office_tree.specs.Inheriting.{is_heir}
 use Rattle.office_records.specs.Lasting.{AggregationStays}
 use Rattle.office_records.specs.Lists.{numbered, put}
@@ -122,3 +123,21 @@ listed_record classes xs records more numbers lists more_lists class now r old s
     | inr apart ↦ ap (option_and_then (get numbers)) (class_by_head xs records more q (same q apart)) ∙ old.each q c (others q c apart e)
   ];
 }
+
+-- a record that was added, on the list of its class
+pub listed_added : (classes : FinMap code_cmp Class) (xs : List Aggregation) (records more : List Record) (numbers : NumberMap) (lists more_lists : ℕ) (class now : List ℕ) → AreListed classes xs records numbers lists class → more_lists ≡ lists
+    → length more ≡ length records + 1 → ((q : ℕ) → q ≢ length records + 1 → numbered more q ≡ numbered records q) → AreExtended (IsOfClass numbers xs more) more (λ _. false) class now → AreListed classes xs more numbers more_lists now
+listed_added classes xs records more numbers lists more_lists class now old same_lists longer same added = record {
+  numbers_agree = subst (λ (n : ℕ). HaveNumbers classes numbers n) (sym same_lists) old.numbers_agree;
+  count = as_many;
+  each = λ q c e.
+      let head = across now more q c as_many e in
+      elim (added.done q c head.0 e head.1) [
+        | inl is ↦ is
+        | inr kept ↦
+            let within = numbered_within class q c kept.1 in
+            ap (option_and_then (get numbers)) (class_by_head xs records more q (same q (λ at. omega (arith, at, within.1, old.count)))) ∙ old.each q c kept.1
+      ];
+} where
+  as_many : length now ≡ length more
+  as_many = omega (arith, added.count, longer, old.count)

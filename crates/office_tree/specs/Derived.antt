@@ -1,8 +1,9 @@
 -- What is derived from the rows of a tree, and what of it is right while some of it is computed anew. Source: own.
-use Rattle.std.specs.Prelude.{◌≡◌, ◌≢◌, ℕ, Bool, List, length, Some}
+use Rattle.std.specs.Prelude.{◌≡◌, ◌≢◌, ◌+◌, ◌<◌, ℕ, Bool, List, length, vec_len, Some}
 use Rattle.std.specs.FinMap.{from_entries}
 use Rattle.office_tree.specs.ChildLists.{HasChildren, HasLinks}
 use Rattle.office_tree.specs.ClassIndex.{AreListed, HaveNumbers, IsOfClass}
+use Rattle.office_tree.specs.ClassLists.{HaveRoom}
 use Rattle.office_records.specs.Lists.{numbered}
 use Rattle.office_tree.specs.RecordCaches.{IsRecordCache}
 use Rattle.office_tree.specs.Rooms.{HasRoom}
@@ -67,6 +68,12 @@ pub record AreRenewed {A : Type 0} (IsRight : ℕ → A → Type 0) (records : L
   pub count : length new ≡ length old
   pub done : AreDone IsRight records meant old new
 
+-- one record more is there, and it and those that are meant are right; the others are as they were
+pub record AreExtended {A : Type 0} (IsRight : ℕ → A → Type 0) (records : List Record) (meant : Record → Bool)
+    (old new : List A) : Type 0 where
+  pub count : length new ≡ length old + 1
+  pub done : AreDone IsRight records meant old new
+
 -- the classes keep their numbers and lists
 pub record KeepsNumbers (old new : ClassIndex) : Type 0 where
   pub same : new.numbers ≡ old.numbers
@@ -89,6 +96,33 @@ pub record HasAggregationRoom (it : Directory) : Type 0 where
   pub container : HasRoom it.records_in.last
   pub parent : HasRoom it.aggregations_in.last
   pub child : HasRoom it.aggregations_in.before
+
+-- and of one record more
+pub record HasRecordRoom (it : Derived) : Type 0 where
+  pub linked : HasRoom it.directory.records_in.before
+  pub row : HasRoom it.per_record.record_caches.rows
+  pub mark : vec_len it.per_record.record_caches.rows < length it.per_record.record_caches.candidates
+  pub lists : HaveRoom it.per_record.class_index.class_lists.next it.per_record.class_index.class_lists.previous
+      it.per_record.class_index.class_lists.class
+
+-- only what records are in, their refs and what is counted of them may be others
+pub record KeepsBesideRecords (old new : Directory) : Type 0 where
+  pub by_aggregation_ref : new.by_aggregation_ref ≡ old.by_aggregation_ref
+  pub schedule_numbers : new.schedule_numbers ≡ old.schedule_numbers
+  pub aggregations_in : new.aggregations_in ≡ old.aggregations_in
+
+-- only the refs of records are others
+pub record KeepsBesideRecordRefs (old new : Derived) : Type 0 where
+  pub directory : KeepsBesideRecords old.directory new.directory
+  pub summaries : new.directory.summaries.items ≡ old.directory.summaries.items
+  pub last : new.directory.records_in.last.items ≡ old.directory.records_in.last.items
+  pub before : new.directory.records_in.before.items ≡ old.directory.records_in.before.items
+  pub rows : new.per_record.record_caches.rows.items ≡ old.per_record.record_caches.rows.items
+  pub numbers : new.per_record.class_index.numbers ≡ old.per_record.class_index.numbers
+  pub first : new.per_record.class_index.class_lists.first.items
+      ≡ old.per_record.class_index.class_lists.first.items
+  pub class : new.per_record.class_index.class_lists.class.items
+      ≡ old.per_record.class_index.class_lists.class.items
 
 -- only the refs of aggregations are others
 pub record KeepsBesideRefs (old new : Directory) : Type 0 where

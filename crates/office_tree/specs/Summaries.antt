@@ -1,5 +1,5 @@
 -- What is cached of the records in and below each aggregation, so that it is not counted again each time. Source: own.
-use Rattle.std.specs.Prelude.{◌≡◌, ◌==◌, ◌&&◌, ◌+◌, ℕ, Bool, cond, not, List, filter, length, Some, ℤ}
+use Rattle.std.specs.Prelude.{◌≡◌, ◌==◌, ◌&&◌, ◌+◌, ◌⊎◌, ℕ, Bool, cond, not, List, filter, length, Some, None, ℤ}
 use Rattle.std.specs.List.{list_any}
 use Rattle.office_records.specs.Disposal.{is_ended, records_below}
 use Rattle.office_records.specs.Lists.{numbered, holds_of, later}
@@ -49,6 +49,12 @@ pub record AreAdded (aggregations : List Aggregation) (container : ℕ) (day : �
   pub count : length new ≡ length old
   pub each : (a : ℕ) (it : AggregationSummary) → numbered old a ≡ Some it
       → numbered new a ≡ Some (added_to aggregations container day is_live a it)
+
+-- an addition to that container on that day is not later than the last one, or it is the first
+abbrev pub IsQuiet : List AggregationSummary → ℕ → ℤ → Type 0
+IsQuiet summaries container day =
+    (it : AggregationSummary) → numbered summaries container ≡ Some it
+    → (it.last_addition ≡ None) ⊎ (later it.last_addition day ≡ it.last_addition)
 
 -- what is cached of an aggregation once a record of a container was live, or not, and is live, or not
 pub record IsTurned (aggregations : List Aggregation) (container : ℕ) (was is : Bool) (a : ℕ)

@@ -1,8 +1,9 @@
 //! The index of records by class: a number for each class, and the list under it.
-ghost use Rattle.std.specs.Prelude.{◌≡◌, ◌≤◌, [], IfOk, IsSome, IsTrue, OnOk, Some, length};
+ghost use Rattle.std.specs.Prelude.{◌≡◌, ◌+◌, ◌≤◌, [], IfOk, IsSome, IsTrue, OnOk, Some, false, length};
 ghost use Rattle.std.specs.FinMap.{FinMap, empty, from_entries, get};
 ghost use Rattle.office_tree.specs.ClassIndex.{AreListed, HaveNumbers, IsOfClass, StayNamed};
-ghost use Rattle.office_tree.specs.Derived.{AreRenewed, CanRefresh, HasPlaces, IsPutRight, KeepsNumbers};
+ghost use Rattle.office_tree.specs.ClassLists.{HaveRoom};
+ghost use Rattle.office_tree.specs.Derived.{AreExtended, AreRenewed, CanRefresh, HasPlaces, IsPutRight, KeepsNumbers};
 ghost use Rattle.office_records.specs.Sound.{IsSound};
 ghost use Rattle.office_tree.specs.Stored.{is_in};
 ghost use Rattle.office_records.specs.Tree.{code_cmp, has_aggregation, has_record};
@@ -89,6 +90,24 @@ impl ClassIndex {
         let class = class_in(rows.aggregations, rows.records, record_no);
         let number = self.number_of(class);
         self.class_lists.put(record_no, number);
+    }
+
+    /// Adds the next record, for which there is room, on the list of its class.
+    pub(crate) fn add_listed(&mut self, rows: &Rows<'_>)
+        requires sound { IsSound rows.now }
+        requires room { HaveRoom self.old.class_lists.next self.old.class_lists.previous
+            self.old.class_lists.class }
+        requires numbers { HaveNumbers rows.now.classes (from_entries self.old.numbers.entries)
+            (length self.old.class_lists.first.items) }
+        requires many { length self.old.class_lists.class.items + 1 ≡ length rows.now.records }
+        ensures keeps { KeepsNumbers self.old self.new }
+        ensures listed { AreExtended
+            (IsOfClass (from_entries self.old.numbers.entries) rows.now.aggregations
+            rows.now.records) rows.now.records (λ _. false) self.old.class_lists.class.items
+            self.new.class_lists.class.items }
+    {
+        self.class_lists.add();
+        self.reindex(rows, rows.records.len() as RecordNo);
     }
 
     /// Puts each record of the aggregation on the list of its class, and goes through these alone.

@@ -1,18 +1,19 @@
 //! New classes, aggregations and records: rows added with all that is derived from them.
-ghost use Rattle.std.specs.Prelude.{◌≡◌, ◌+◌, ◌<◌, ◌≤◌, ◌++◌, ◌∷◌, ◌⊎◌, [], OnOk, OnErr, Some, None, false, length, vec_len, vec_capacity};
-ghost use Rattle.std.specs.FinMap.{contains_key};
-ghost use Rattle.office_records.specs.Lists.{later, numbered};
+ghost use Rattle.std.specs.Prelude.{◌≡◌, ◌+◌, ◌<◌, ◌≤◌, ◌++◌, ◌∷◌, [], OnOk, OnErr, false, length, vec_len, vec_capacity};
+ghost use Rattle.std.specs.FinMap.{contains_key, from_entries, insert};
 ghost use Rattle.office_records.specs.Rows.{put_aggregation, put_class, put_record};
 ghost use Rattle.office_records.specs.Sound.{IsSound};
-ghost use Rattle.office_tree.specs.declared.summary.AggregationSummary.{AggregationSummary};
+ghost use Rattle.office_records.specs.Tree.{code_cmp};
+ghost use Rattle.office_tree.specs.Derived.{HasRecordRoom, KeepsBesideRecordRefs};
+ghost use Rattle.office_tree.specs.Rooms.{HasRoom};
 
 use crate::Tree;
-use crate::ref_index::put_ref;
+use crate::derived::Derived;
 use crate::rows::rows_of;
-use crate::summary::{AggregationSummary, note_addition};
+use crate::summary::AggregationSummary;
 use office_base::Memory;
-use office_days::Day;
-use office_records::{AggNo, Aggregation, Class, Code, Record, RecordNo, Status};
+use office_records::{AggNo, Aggregation, Class, Code, Record, RecordNo, Status, Text};
+use std::alloc::Global;
 
 /// Puts one more in, for which there is room.
 pub(crate) fn push_row<T: Drop>(rows: &mut Vec<T>, row: T)
@@ -24,18 +25,34 @@ pub(crate) fn push_row<T: Drop>(rows: &mut Vec<T>, row: T)
     }
 }
 
-/// Whether an addition on that day is later than the last one to the aggregation, if there is one.
-fn is_later(summaries: &[AggregationSummary], aggregation: AggNo, day: Day) -> bool
-    requires low { 0 < aggregation }
-    requires high { aggregation ≤ length summaries.now }
-    ensures { result ≡ false → (it : AggregationSummary)
-        → numbered summaries.now aggregation ≡ Some it → (it.last_addition ≡ None)
-        ⊎ (later it.last_addition day ≡ it.last_addition) }
+/// Makes room for one more record with what is derived of it, and puts its ref into the index.
+fn make_record_room(
+    alloc: Global,
+    records: &mut Vec<Record>,
+    statuses: &mut Vec<Status>,
+    derived: &mut Derived,
+    ref_text: &Text,
+) -> Result<(), Memory>
+    requires few { length records.old.items ≤ 200_000 }
+    requires cached { length derived.old.per_record.record_caches.rows.items ≤ 200_000 }
+    ensures records { records.new.items ≡ records.old.items }
+    ensures statuses { statuses.new.items ≡ statuses.old.items }
+    ensures keeps { KeepsBesideRecordRefs derived.old derived.new }
+    ensures room { OnOk result
+        (HasRoom records.new × HasRoom statuses.new × HasRecordRoom derived.new) }
+    ensures indexed { OnOk result
+        (from_entries {R = code_cmp} derived.new.directory.by_record_ref.entries
+        ≡ insert (from_entries derived.old.directory.by_record_ref.entries) ref_text.now
+        (length records.old.items + 1)) }
+    ensures err { OnErr result
+        (from_entries {R = code_cmp} derived.new.directory.by_record_ref.entries
+        ≡ from_entries derived.old.directory.by_record_ref.entries) }
 {
-    match summaries[aggregation as usize - 1].last_addition {
-        Some(last) => last < day,
-        None => false,
-    }
+    records.try_reserve(1)?;
+    statuses.try_reserve(1)?;
+    derived.per_record.make_room()?;
+    let number = records.len() as RecordNo + 1;
+    derived.directory.make_record_room(alloc, ref_text, number)
 }
 
 impl Tree {
@@ -86,54 +103,29 @@ impl Tree {
             (self.new ≡ put_record self.old (length self.old.records + 1) head status) }
         ensures err { OnErr result (self.new ≡ self.old) }
     {
-        self.records.try_reserve(1)?;
-        self.statuses.try_reserve(1)?;
-        self.derived.per_record.record_caches.make_room()?;
-        self.derived.directory.records_in.make_thing_room()?;
-        self.derived
-            .per_record
-            .class_index
-            .class_lists
-            .make_record_room()?;
-        let record_no = self.records.len() as RecordNo + 1;
         let alloc = *self.records.allocator();
-        put_ref(
-            &mut self.derived.directory.by_record_ref,
+        make_record_room(
             alloc,
+            &mut self.records,
+            &mut self.statuses,
+            &mut self.derived,
             &head.ref_text,
-            record_no,
         )?;
         let container = head.aggregation;
         let day = head.added;
+        let is_live = status.is_live();
         push_row(&mut self.records, head);
         push_row(&mut self.statuses, status);
-        self.derived.per_record.record_caches.push();
-        self.derived.directory.records_in.add_thing(container);
-        self.derived.per_record.class_index.class_lists.add();
-        let is_later = is_later(&self.derived.directory.summaries, container, day);
-        let is_live = status.is_live();
-        note_addition(
-            &mut self.derived.directory.summaries,
-            &self.aggregations,
-            container,
-            day,
-            is_live,
-        );
+        let is_later = self
+            .derived
+            .directory
+            .add_record(&self.aggregations, container, day, is_live);
         let rows = rows_of!(self);
         self.derived
             .per_record
             .record_caches
-            .refresh(&rows, &self.derived.directory, record_no);
-        self.derived
-            .per_record
-            .class_index
-            .reindex(&rows, record_no);
-        if is_later {
-            self.derived
-                .per_record
-                .record_caches
-                .refresh_container(&rows, &self.derived.directory, container);
-        }
+            .add_computed(&rows, &self.derived.directory, container, is_later);
+        self.derived.per_record.class_index.add_listed(&rows);
         Ok(())
     }
 }

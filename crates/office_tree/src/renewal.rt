@@ -1,8 +1,9 @@
 //! What is derived of a record, or of some, computed anew from the rows after a change.
-ghost use Rattle.std.specs.Prelude.{◌≡◌, ◌<◌, ◌≤◌, ◌&&◌, IfOk, IsTrue, length};
-ghost use Rattle.office_tree.specs.Derived.{AreClassRight, AreRenewed, CanCache, CanRefresh, HasPlaces, IsPutRight, IsRenewed};
+ghost use Rattle.std.specs.Prelude.{◌≡◌, ◌+◌, ◌<◌, ◌≤◌, ◌&&◌, IfOk, IsTrue, length, vec_len};
+ghost use Rattle.office_tree.specs.Derived.{AreClassRight, AreExtended, AreRenewed, CanCache, CanRefresh, HasPlaces, IsPutRight, IsRenewed};
 ghost use Rattle.office_tree.specs.Inheriting.{is_heir, is_reached};
 ghost use Rattle.office_tree.specs.RecordCaches.{AreRecordCaches, IsRecordCache};
+ghost use Rattle.office_tree.specs.Rooms.{HasRoom};
 ghost use Rattle.office_tree.specs.Stored.{is_in};
 ghost use Rattle.office_records.specs.Tree.{has_aggregation, has_record};
 
@@ -68,6 +69,33 @@ impl RecordCaches {
         while at != 0 {
             self.refresh(rows, directory, at);
             at = directory.records_in.before(at);
+        }
+    }
+}
+
+impl RecordCaches {
+    /// Adds what is cached of the next record, for which there is room, and computes anew what is
+    /// cached of the others in its container, if it came later than these.
+    pub(crate) fn add_computed(
+        &mut self,
+        rows: &Rows<'_>,
+        directory: &Directory,
+        container: AggNo,
+        is_later: bool,
+    )
+        requires ready { CanRefresh rows.now directory.now }
+        requires there { IsTrue (has_aggregation rows.now container) }
+        requires row_room { HasRoom self.old.rows }
+        requires mark_room { vec_len self.old.rows < length self.old.candidates }
+        requires many { length self.old.rows.items + 1 ≡ length rows.now.records }
+        ensures { AreExtended (IsRecordCache directory.now.schedule_numbers rows.now)
+            rows.now.records (λ head. is_later && is_in container head) self.old.rows.items
+            self.new.rows.items }
+    {
+        self.push();
+        self.refresh(rows, directory, rows.records.len() as RecordNo);
+        if is_later {
+            self.refresh_container(rows, directory, container);
         }
     }
 }

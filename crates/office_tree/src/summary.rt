@@ -1,9 +1,9 @@
 //! What is derived of each aggregation: its last addition, and counts of the records below it.
-ghost use Rattle.std.specs.Prelude.{◌≡◌, ◌+◌, ◌-◌, ◌<◌, ◌≤◌, IfOk, ◌&&◌, ◌==◌, count_by, length, map, true, ℕ};
+ghost use Rattle.std.specs.Prelude.{◌≡◌, ◌+◌, ◌-◌, ◌<◌, ◌≤◌, IfOk, ◌&&◌, ◌==◌, count_by, false, length, map, true, ℕ};
 ghost use Rattle.std.specs.List.{All};
 ghost use Rattle.office_records.specs.Lists.{numbered};
 ghost use Rattle.office_records.specs.Sound.{IsForest, IsSound, RootsHaveClasses};
-ghost use Rattle.office_tree.specs.Summaries.{AreAdded, AreSummaries, AreTurned, is_in_chain};
+ghost use Rattle.office_tree.specs.Summaries.{AreAdded, AreSummaries, AreTurned, IsQuiet, is_in_chain};
 ghost use Rattle.office_records.specs.Tree.{TreeState};
 
 use crate::change_refusals::is_ended;
@@ -67,6 +67,18 @@ fn take_live(summaries: &mut [AggregationSummary], numbers: &[AggNo])
     for number in numbers {
         let summary = &mut summaries[*number as usize - 1];
         summary.live -= 1;
+    }
+}
+
+/// Whether an addition on that day is later than the last one to the aggregation, if there is one.
+pub(crate) fn is_later(summaries: &[AggregationSummary], aggregation: AggNo, day: Day) -> bool
+    requires low { 0 < aggregation }
+    requires high { aggregation ≤ length summaries.now }
+    ensures { result ≡ false → IsQuiet summaries.now aggregation day }
+{
+    match summaries[aggregation as usize - 1].last_addition {
+        Some(last) => last < day,
+        None => false,
     }
 }
 

@@ -7,7 +7,7 @@ use Rattle.office_desk.specs.Desk.{DeskState}
 use Rattle.office_json.specs.Lists.{NoActs, not_json, bad_act}
 use Rattle.office_http.specs.Replies.{Response}
 use Rattle.office_wire.specs.Answering.{AnyAnswer, ArePerformed, PerformsActs, Resumes, Serves, RunsOutOfMemory, ReportsCertificate, ReportsContent, ReportsDue, ReportsOverdue, ReportsRecord}
-use Rattle.office_http.specs.Receiving.{Wanted, acts, cut, refused, requested}
+use Rattle.office_http.specs.Receiving.{OfficeRequest, acts, cut, refused, requested}
 use Rattle.office_http.specs.declared.path_request.PathRequest.TheVariants as path
 use Rattle.office_wire.specs.Serving.{IsServed, LeavesServed}
 
@@ -43,7 +43,7 @@ certificate_any : {S : Type 0} (Reported : Response → Type 0) (g : Ghosts S) (
 certificate_any Reported g t None desk it = (tt, it.1)
 certificate_any Reported g t (Some run) desk it = (inl tt, it.1)
 
-serves_any : {S : Type 0} (Reported : Response → Type 0) (g : Ghosts S) (t : State) (it : Wanted) (desk : DeskState S) → Serves Reported g t it desk → Serves AnyAnswer g t it desk
+serves_any : {S : Type 0} (Reported : Response → Type 0) (g : Ghosts S) (t : State) (it : OfficeRequest) (desk : DeskState S) → Serves Reported g t it desk → Serves AnyAnswer g t it desk
 serves_any Reported g t (refused check) desk served = (tt, served.1)
 serves_any Reported g t cut desk served = (tt, served.1)
 serves_any Reported g t (acts body) desk served = performs_any Reported g t _ desk served
@@ -55,7 +55,7 @@ serves_any Reported g t (requested (path.Overdue day count)) desk served = overd
 serves_any Reported g t (requested (path.Certificate run)) desk served = certificate_any Reported g t run desk served
 
 -- where memory ran out for it, the desk is where serving it leaves it, or where it was
-out_of_memory_leaves : {S : Type 0} (g : Ghosts S) (t : State) (it : Wanted) (desk : DeskState S) → RunsOutOfMemory g t it desk → LeavesServed g t desk
+out_of_memory_leaves : {S : Type 0} (g : Ghosts S) (t : State) (it : OfficeRequest) (desk : DeskState S) → RunsOutOfMemory g t it desk → LeavesServed g t desk
 out_of_memory_leaves g t (refused check) desk out = absurd out
 out_of_memory_leaves g t cut desk out = absurd out
 out_of_memory_leaves g t (acts body) desk (inl at) = (cut, (tt, at))
@@ -69,6 +69,6 @@ out_of_memory_leaves g t (requested (path.Overdue day count)) desk out = (cut, (
 out_of_memory_leaves g t (requested (path.Certificate run)) desk out = (cut, (tt, out.1))
 
 -- what is served leaves the desk as serving it may
-pub served_leaves : {S : Type 0} (g : Ghosts S) (t : State) (it : Wanted) (r : Response) (desk : DeskState S) → IsServed g t it r desk → LeavesServed g t desk
+pub served_leaves : {S : Type 0} (g : Ghosts S) (t : State) (it : OfficeRequest) (r : Response) (desk : DeskState S) → IsServed g t it r desk → LeavesServed g t desk
 served_leaves g t it r desk (inl answered) = (it, serves_any (λ reported. r ≡ reported) g t it desk answered)
 served_leaves g t it r desk (inr (is, out)) = out_of_memory_leaves g t it desk out

@@ -20,17 +20,17 @@ use Rattle.office_desk.specs.Outcomes.{ActsCameTo, ActsLead, ActsOutcome, all_do
 use Rattle.office_desk.specs.Resumptions.{none_open, run_closed, run_stopped}
 use Rattle.office_desk.specs.Resuming.{resumed_answer}
 use Rattle.office_json.specs.Lists.{NoActs, acts_in, bad_act, not_json}
-use Rattle.office_http.specs.Receiving.{Wanted, acts, cut, refused, requested, wanted}
-use Rattle.office_http.specs.Replies.{Response, failure_response, response_text, status_number}
+use Rattle.office_http.specs.Receiving.{OfficeRequest, acts, cut, refused, requested, office_request}
+use Rattle.office_http.specs.Replies.{Response, error_response, response_text, status_number}
 use Rattle.office_http.specs.Requests.{Request, IsRequest, nothing, headless, asks}
-use Rattle.office_http.specs.declared.failure.Failure.TheVariants as failure
+use Rattle.office_http.specs.declared.request_error.RequestError.TheVariants as error
 use Rattle.office_http.specs.declared.path_request.PathRequest.TheVariants as path
 use Rattle.office_http.specs.declared.status.Status.{Status}
 use Rattle.office_wire.specs.Answering.{Answers, IsUnavailable, PerformsActs, Reports, Resumes, acts_reply, content_reply}
 use Rattle.office_wire.specs.Exchanges.{AreExchanged, IsExchanged, none, one_more}
 use Rattle.office_wire.specs.Replies.{acts_response, answer_response, content_response, fault_response, json_response, stopped_response}
 use Rattle.office_wire.specs.Serving.{IsReply, IsReplied, IsServed, Replies}
-use Rattle.office_wire.specs.Sessions.{AreWellAnswered, Attends, IsAnswer, IsAnsweredBy, IsSession, acts_answer, after_asked, after_request, after_resumed, after_wanted, bytes_of}
+use Rattle.office_wire.specs.Sessions.{AreWellAnswered, Attends, IsAnswer, IsAnsweredBy, IsSession, acts_answer, after_asked, after_request, after_resumed, after_office_request, bytes_of}
 use Rattle.office_wire.specs.Sources.{Sent}
 use Rattle.office_wire.proofs.SessionSteps.{begun, same_session, went_on}
 use Rattle.office_wire.proofs.Unavailable.{memory_unavailable}
@@ -43,11 +43,11 @@ fault_is : (r : Response) (f : Fault) → IsWell r → r ≡ fault_response f �
 unfolding json_response
 fault_is r f well is = well (subst (λ (x : Response). IsUnavailable x) (sym is) refl)
 
-stopped_is : (r : Response) (told : List Answer) (f : Fault) → IsWell r → r ≡ stopped_response told f → ⊥
+stopped_is : (r : Response) (replies : List Answer) (f : Fault) → IsWell r → r ≡ stopped_response replies f → ⊥
 unfolding json_response
-stopped_is r told f well is = well (subst (λ (x : Response). IsUnavailable x) (sym is) refl)
+stopped_is r replies f well is = well (subst (λ (x : Response). IsUnavailable x) (sym is) refl)
 
-memory_is : (r : Response) → IsWell r → r ≡ failure_response failure.Memory → ⊥
+memory_is : (r : Response) → IsWell r → r ≡ error_response error.Memory → ⊥
 memory_is r well is = well (subst (λ (x : Response). IsUnavailable x) (sym is) memory_unavailable)
 
 reported_is : (t : State) (n : ℕ) (content : Option (List ℕ)) → IsContentReported t n content → get t.contents n ≡ content
@@ -56,11 +56,11 @@ reported_is t n (Some bytes) is = is.0
 
 module _ {S : Type 0} (g : Ghosts S) (t : State) (d : DeskState S) (r : Response) (well : IsWell r) where
   outcome_well : (done : List Act) (o : ActsOutcome) → r ≡ acts_reply o → ActsLead t done o d → ActsCameTo t done o (state g d.held) → (r ≡ acts_response (answers t done)) × IsAt g (after t done) d
-  outcome_well done (all_done told) is leads came = (
+  outcome_well done (all_done replies) is leads came = (
     is ∙ ap (λ (x : List Answer). acts_response x) came.answered,
     record { is_open = leads.1; office = leads.0; sound = came.leaves.sound; rows = came.leaves.rows },
   )
-  outcome_well done (stopped told f) is leads came = absurd (stopped_is r told f well is)
+  outcome_well done (stopped replies f) is leads came = absurd (stopped_is r replies f well is)
 
   acts_well : (asked : Result (List Act) NoActs) → PerformsActs (λ reported. r ≡ reported) g t asked d → (r ≡ acts_answer t asked) × IsAt g (after_asked t asked) d
   acts_well (Ok done) it = outcome_well done it.outcome it.reported it.leads it.came
@@ -86,25 +86,25 @@ module _ {S : Type 0} (g : Ghosts S) (t : State) (d : DeskState S) (r : Response
   rows_well P (inl is, at) = (is, at)
   rows_well P (inr is, at) = absurd (fault_is r fault.Memory well is)
 
-  wanted_well : (it : Wanted) → Answers g t it r d → IsAnswer t it r × IsAt g (after_wanted t it) d
-  wanted_well (refused check) served = served
-  wanted_well cut served = served
-  wanted_well (acts body) served = acts_well (acts_in body) served
-  wanted_well (requested path.Resume) served = run_well served
-  wanted_well (requested (path.Record None)) served = served
-  wanted_well (requested (path.Record (Some n))) served = reading_well _ served
-  wanted_well (requested (path.Content None)) served = served
-  wanted_well (requested (path.Content (Some n))) (found, is, it) = content_well n found is it
-  wanted_well (requested (path.Due None)) served = served
-  wanted_well (requested (path.Due (Some day))) served = rows_well _ served
-  wanted_well (requested (path.Overdue None n)) served = served
-  wanted_well (requested (path.Overdue (Some day) None)) served = served
-  wanted_well (requested (path.Overdue (Some day) (Some n))) served = rows_well _ served
-  wanted_well (requested (path.Certificate None)) served = served
-  wanted_well (requested (path.Certificate (Some run))) served = reading_well _ served
+  request_well : (it : OfficeRequest) → Answers g t it r d → IsAnswer t it r × IsAt g (after_office_request t it) d
+  request_well (refused check) served = served
+  request_well cut served = served
+  request_well (acts body) served = acts_well (acts_in body) served
+  request_well (requested path.Resume) served = run_well served
+  request_well (requested (path.Record None)) served = served
+  request_well (requested (path.Record (Some n))) served = reading_well _ served
+  request_well (requested (path.Content None)) served = served
+  request_well (requested (path.Content (Some n))) (found, is, it) = content_well n found is it
+  request_well (requested (path.Due None)) served = served
+  request_well (requested (path.Due (Some day))) served = rows_well _ served
+  request_well (requested (path.Overdue None n)) served = served
+  request_well (requested (path.Overdue (Some day) None)) served = served
+  request_well (requested (path.Overdue (Some day) (Some n))) served = rows_well _ served
+  request_well (requested (path.Certificate None)) served = served
+  request_well (requested (path.Certificate (Some run))) served = reading_well _ served
 
-  served_well : (it : Wanted) → IsServed g t it r d → IsAnswer t it r × IsAt g (after_wanted t it) d
-  served_well it (inl answered) = wanted_well it answered
+  served_well : (it : OfficeRequest) → IsServed g t it r d → IsAnswer t it r × IsAt g (after_office_request t it) d
+  served_well it (inl answered) = request_well it answered
   served_well it (inr (is, out)) = absurd (memory_is r well is)
 
   -- the answer to a request, and where it leads
@@ -115,7 +115,7 @@ module _ {S : Type 0} (g : Ghosts S) (t : State) (d : DeskState S) (r : Response
   replied_well nothing is_head it = absurd it
   replied_well headless is_head it = (ap (λ (b : Bool). response_text b r) it.0 ∙ ap (λ (x : Response). response_text false x) it.1, it.2)
   replied_well (asks h rest) is_head (head, inl served) =
-      let well_served = served_well (wanted h rest) served in
+      let well_served = served_well (office_request h rest) served in
       ((r, well_served.0, ap (λ (b : Bool). response_text b r) head), well_served.1)
   replied_well (asks h rest) is_head (head, inr (lacks, at)) = absurd (memory_is r well lacks.1)
 

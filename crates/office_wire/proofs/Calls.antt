@@ -10,9 +10,9 @@ use Rattle.office_wire.specs.Calling.{AnsweredAt, CalledAt}
 pub called : {S : Type 0} (g : Ghosts S) (old new : DeskState S) (P Q : State → Type 0) → CalledAt g old new P → ((t : State) → P t → Q t) → CalledAt g old new Q
 called g old new P Q it to = record { clean = it.clean; shield = it.shield; did = λ t clean at. to t (it.did t clean at) }
 
-pub answered : {S : Type 0} (g : Ghosts S) (old new : DeskState S) (P Q : State → Type 0) (Gone Away Reported Said : Type 0)
-    → AnsweredAt g old new P Gone Reported → ((t : State) → P t → Q t) → (Gone → Away) → (Reported → Said) → AnsweredAt g old new Q Away Said
-answered g old new P Q Gone Away Reported Said it to away said =
+pub answered : {S : Type 0} (g : Ghosts S) (old new : DeskState S) (P Q : State → Type 0) (IfPoisoned IfPoisonedThen OnPoisoning OnPoisoningThen : Type 0)
+    → AnsweredAt g old new P IfPoisoned OnPoisoning → ((t : State) → P t → Q t) → (IfPoisoned → IfPoisonedThen) → (OnPoisoning → OnPoisoningThen) → AnsweredAt g old new Q IfPoisonedThen OnPoisoningThen
+answered g old new P Q IfPoisoned IfPoisonedThen OnPoisoning OnPoisoningThen it to away said =
     record {
       call = called g old new P Q it.call to;
       kept = it.kept;
@@ -35,11 +35,11 @@ pub not_called : {S : Type 0} (g : Ghosts S) (desk : DeskState S) (P : State →
 not_called g desk P none = record { clean = λ clean. clean; shield = λ shielded. shielded; did = λ t clean at. none t at }
 
 -- and a desk that is open stays so
-still_open : {Reported : Type 0} (b : Bool) → b ≡ false → IsTrue b → Reported
+still_open : {OnPoisoning : Type 0} (b : Bool) → b ≡ false → IsTrue b → OnPoisoning
 still_open b still gone = absurd (let wrong = gone in cc)
 
-pub not_answered : {S : Type 0} (g : Ghosts S) (desk : DeskState S) (P : State → Type 0) (Gone Reported : Type 0) → ((t : State) → IsAt g t desk → P t) → Gone → AnsweredAt g desk desk P Gone Reported
-not_answered g desk P Gone Reported none gone =
+pub not_answered : {S : Type 0} (g : Ghosts S) (desk : DeskState S) (P : State → Type 0) (IfPoisoned OnPoisoning : Type 0) → ((t : State) → IsAt g t desk → P t) → IfPoisoned → AnsweredAt g desk desk P IfPoisoned OnPoisoning
+not_answered g desk P IfPoisoned OnPoisoning none gone =
     record {
       call = not_called g desk P none;
       kept = λ was. refl;

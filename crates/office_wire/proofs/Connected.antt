@@ -7,7 +7,7 @@ use Rattle.office_base.specs.declared.output.Io.{Io}
 use Rattle.office_desk.specs.Desk.{DeskState}
 use Rattle.office_wire.specs.Connections.{Ends, Turn, Turns, has_failed}
 use Rattle.office_wire.specs.Exchanges.{AreServed, IsNextServed}
-use Rattle.office_wire.specs.Sources.{Told}
+use Rattle.office_wire.specs.Sources.{Traffic}
 use Rattle.office_wire.proofs.Exchanged.{some_more_served, some_none_served}
 
 none_yet : {S : Type 0} (g : Ghosts S) (desk : DeskState S) → Turns g 0 false false desk desk
@@ -22,19 +22,19 @@ unfolding Turns
 one_more g n failed ended status old m new served turn ends = simp unary_clauses (m, failed, status, served, turn, ends, refl)
 
 -- so many connections were served; of a source that reports their bytes it is known which
-pub record IsServing {C S : Type 0} (g : Ghosts S) (told : C → Option Told) (n : ℕ) (failed : Bool) (first source : C) (old new : DeskState S) : Type 0 where
+pub record IsServing {C S : Type 0} (g : Ghosts S) (traffic : C → Option Traffic) (n : ℕ) (failed : Bool) (first source : C) (old new : DeskState S) : Type 0 where
   pub turns : Turns g n failed false old new
-  pub served : IfSome (told first) (λ before. AreServed g n failed before (told source) old new)
+  pub served : IfSome (traffic first) (λ before. AreServed g n failed before (traffic source) old new)
 
-pub none_serving : {C S : Type 0} (g : Ghosts S) (told : C → Option Told) (source : C) (desk : DeskState S) → IsServing g told 0 false source source desk desk
-none_serving g told source desk = record { turns = none_yet g desk; served = some_none_served g desk (told source) }
+pub none_serving : {C S : Type 0} (g : Ghosts S) (traffic : C → Option Traffic) (source : C) (desk : DeskState S) → IsServing g traffic 0 false source source desk desk
+none_serving g traffic source desk = record { turns = none_yet g desk; served = some_none_served g desk (traffic source) }
 
 pub next_serving :
-    {C S : Type 0} (g : Ghosts S) (told : C → Option Told) (n : ℕ) (failed : Bool) (status : Result ℕ Io) (first before after : C) (old m new : DeskState S)
-    → IsServing g told n failed first before old m → Turn g status m new → IfSome (told before) (λ it. IsNextServed g status it (told after) m new) → Ends status new.is_poisoned false
-    → IsServing g told (n + 1) (failed || has_failed status) first after old new
-next_serving g told n failed status first before after old m new serving turn next ends =
+    {C S : Type 0} (g : Ghosts S) (traffic : C → Option Traffic) (n : ℕ) (failed : Bool) (status : Result ℕ Io) (first before after : C) (old m new : DeskState S)
+    → IsServing g traffic n failed first before old m → Turn g status m new → IfSome (traffic before) (λ it. IsNextServed g status it (traffic after) m new) → Ends status new.is_poisoned false
+    → IsServing g traffic (n + 1) (failed || has_failed status) first after old new
+next_serving g traffic n failed status first before after old m new serving turn next ends =
     record {
       turns = one_more g n failed false status old m new serving.turns turn ends;
-      served = some_more_served g old n failed (told first) (told before) (told after) status m new serving.served next;
+      served = some_more_served g old n failed (traffic first) (traffic before) (traffic after) status m new serving.served next;
     }

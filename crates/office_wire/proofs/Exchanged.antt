@@ -13,7 +13,7 @@ use Rattle.office_wire.specs.Calling.{CalledAt}
 use Rattle.office_wire.specs.Connections.{IsVisited, has_failed}
 use Rattle.office_wire.specs.Exchanges.{AreExchanged, AreServed, IsExchanged, IsNextServed, none, one_more}
 use Rattle.office_wire.specs.Serving.{Breaks, GoneReplies, InHalves, IsGoneAnswered, IsGoneReply, IsOneServed, IsReply, LeavesServed, Replies, Sends}
-use Rattle.office_wire.specs.Sources.{Closes, IsAccepted, Sent, Told}
+use Rattle.office_wire.specs.Sources.{Closes, IsAccepted, Sent, Traffic}
 use Rattle.office_wire.specs.declared.exchange.OutgoingReply.{OutgoingReply}
 use Rattle.office_wire.proofs.Calls.{called}
 
@@ -28,11 +28,11 @@ module _ {S : Type 0} (g : Ghosts S) (t : State) (bytes : List ℕ) (unread : Ty
   replies_told code written after (inl silent) = inl silent
   replies_told code written after (inr (is_head, r, reply, writes)) = inr (is_head, r, reply_told is_head r reply, writes)
 
-  one_told : (status : Result ℕ Io) (written after : Option (List ℕ)) → IsOneServed g t (Some bytes) unread status written after d → IsOneServed g t (Some bytes) (Unit {0}) status written after d
-  one_told status written after it = record { ok = IfOk-weaker status _ _ (λ code replies. replies_told code written after replies) it.ok; leaves = it.leaves }
+  one_known : (status : Result ℕ Io) (written after : Option (List ℕ)) → IsOneServed g t (Some bytes) unread status written after d → IsOneServed g t (Some bytes) (Unit {0}) status written after d
+  one_known status written after it = record { ok = IfOk-weaker status _ _ (λ code replies. replies_told code written after replies) it.ok; leaves = it.leaves }
 
-  breaks_told : (written after : Option (List ℕ)) → Breaks g t bytes unread written after d → Breaks g t bytes (Unit {0}) written after d
-  breaks_told written after (is_head, r, reply, some) = (is_head, r, reply_told is_head r reply, some)
+  breaks_known : (written after : Option (List ℕ)) → Breaks g t bytes unread written after d → Breaks g t bytes (Unit {0}) written after d
+  breaks_known written after (is_head, r, reply, some) = (is_head, r, reply_told is_head r reply, some)
 
 gone_reply_told : (bytes : List ℕ) (unread : Type 0) (is_head : Bool) (r : Response) → IsGoneReply bytes unread is_head r → IsGoneReply bytes (Unit {0}) is_head r
 gone_reply_told bytes unread is_head r (inl it) = inl it
@@ -42,8 +42,8 @@ gone_replies_told : (bytes : List ℕ) (unread : Type 0) (code : ℕ) (written a
 gone_replies_told bytes unread code written after (inl silent) = inl silent
 gone_replies_told bytes unread code written after (inr (is_head, r, reply, writes)) = inr (is_head, r, gone_reply_told bytes unread is_head r reply, writes)
 
-gone_told : (bytes : List ℕ) (unread : Type 0) (status : Result ℕ Io) (written after : Option (List ℕ)) → IsGoneAnswered (Some bytes) unread status written after → IsGoneAnswered (Some bytes) (Unit {0}) status written after
-gone_told bytes unread status written after it = IfOk-weaker status _ _ (λ code replies. gone_replies_told bytes unread code written after replies) it
+gone_known : (bytes : List ℕ) (unread : Type 0) (status : Result ℕ Io) (written after : Option (List ℕ)) → IsGoneAnswered (Some bytes) unread status written after → IsGoneAnswered (Some bytes) (Unit {0}) status written after
+gone_known bytes unread status written after it = IfOk-weaker status _ _ (λ code replies. gone_replies_told bytes unread code written after replies) it
 
 -- ---- what went out
 
@@ -92,7 +92,7 @@ module _ {R W S : Type 0} (g : Ghosts S) (all : R → Option (List ℕ)) (reader
   went_out empty = next_out it.halves.next empty it.halves.unserved it.halves.second
 
   -- all that is said of the bytes, by what they are
-  record IsTold (bytes written out : Option (List ℕ)) : Type 0 where
+  record AreBytesServed (bytes written out : Option (List ℕ)) : Type 0 where
     served : CalledAt g old new (λ t. IsOneServed g t bytes (left ≡ reader) status written out new)
     gone : IsTrue old.is_poisoned → IsGoneAnswered bytes (left ≡ reader) status written out
     err : OnErr status (IfSome bytes (λ all_bytes. ((new ≡ old) × (out ≡ written)) ⊎ CalledAt g old new (λ t. Breaks g t all_bytes (left ≡ reader) written out new)))
@@ -107,68 +107,69 @@ module _ {R W S : Type 0} (g : Ghosts S) (all : R → Option (List ℕ)) (reader
   untouched_at (Ok code) P Q to err = tt
   untouched_at (Err e) P Q to err = to err
 
-  told : IsTold (all reader) (contents writer) (contents after)
-  told = record { served = it.served; gone = λ was. (it.gone was).1; err = untouched_at status _ _ (untouched (all reader)) it.halves.err }
+  bytes_served : AreBytesServed (all reader) (contents writer) (contents after)
+  bytes_served = record { served = it.served; gone = λ was. (it.gone was).1; err = untouched_at status _ _ (untouched (all reader)) it.halves.err }
 
-  exchanged_of : (bytes out : List ℕ) → IsTold (Some bytes) (Some []) (Some out) → IsExchanged g bytes (record { bytes = out; status = status }) old new
+  exchanged_of : (bytes out : List ℕ) → AreBytesServed (Some bytes) (Some []) (Some out) → IsExchanged g bytes (record { bytes = out; status = status }) old new
   exchanged_of bytes out its =
       record {
         served =
             record {
               call = called g old new (λ t. IsOneServed g t (Some bytes) (left ≡ reader) status (Some []) (Some out) new) (λ t. IsOneServed g t (Some bytes) (Unit {0}) status (Some []) (Some out) new) its.served
-                  (λ t one. one_told g t bytes (left ≡ reader) new status (Some []) (Some out) one);
+                  (λ t one. one_known g t bytes (left ≡ reader) new status (Some []) (Some out) one);
               kept = λ was. (it.gone was).0;
-              gone = λ was. gone_told bytes (left ≡ reader) status (Some []) (Some out) (its.gone was);
+              gone = λ was. gone_known bytes (left ≡ reader) status (Some []) (Some out) (its.gone was);
               reported = it.unavailable;
             };
         broken = untouched_at status _ _ (λ err. elim err [
           | inl same ↦ inl (same.0, (let none = same.1 in cc))
           | inr breaks ↦ inr (called g old new (λ t. Breaks g t bytes (left ≡ reader) (Some []) (Some out) new) (λ t. Breaks g t bytes (Unit {0}) (Some []) (Some out) new) breaks
-              (λ t is. breaks_told g t bytes (left ≡ reader) new (Some []) (Some out) is))
+              (λ t is. breaks_known g t bytes (left ≡ reader) new (Some []) (Some out) is))
         ]) its.err;
       }
 
   exchanged : (bytes out : List ℕ) → all reader ≡ Some bytes → contents writer ≡ Some [] → contents after ≡ Some out → IsExchanged g bytes (record { bytes = out; status = status }) old new
   exchanged bytes out is empty went =
       exchanged_of bytes out
-      (subst (λ (a : Option (List ℕ)). IsTold a (Some []) (Some out)) is
-      (subst (λ (w : Option (List ℕ)). IsTold (all reader) w (Some out)) empty
-      (subst (λ (x : Option (List ℕ)). IsTold (all reader) (contents writer) x) went told)))
+      (subst (λ (a : Option (List ℕ)). AreBytesServed a (Some []) (Some out)) is
+      (subst (λ (w : Option (List ℕ)). AreBytesServed (all reader) w (Some out)) empty
+      (subst (λ (x : Option (List ℕ)). AreBytesServed (all reader) (contents writer) x) went bytes_served)))
 
-  next_served : (before : Told) (mid reported : Option Told) (closed : Result ℕ Io) → IsAccepted before (all reader) (contents writer) mid → Closes (contents after) status closed mid reported → IsNextServed g closed before reported old new
-  next_served before mid reported closed (first, rest, coming, is, empty, left_told) closes =
+  next_served : (before : Traffic) (mid reported : Option Traffic) (closed : Result ℕ Io) → IsAccepted before (all reader) (contents writer) mid → Closes (contents after) status closed mid reported → IsNextServed g closed before reported old new
+  next_served before mid reported closed (first, rest, coming, is, empty, left_traffic) closes =
       let out = went_out empty in
-      let by_told = subst (λ (x : Option Told). Closes (contents after) status closed x reported) left_told closes in
-      let by_out = subst (λ (x : Option (List ℕ)). Closes x status closed (Some (record { coming = rest; sent = before.sent })) reported) out.1 by_told in
+      let by_traffic = subst (λ (x : Option Traffic). Closes (contents after) status closed x reported) left_traffic closes in
+      let by_out = subst (λ (x : Option (List ℕ)). Closes x status closed (Some (record { coming = rest; sent = before.sent })) reported) out.1 by_traffic in
       inr (first, rest, record { bytes = out.0; status = status }, coming, by_out.1, sym by_out.0, exchanged first out.0 is empty out.1)
 
-  pub some_next_served : (before mid reported : Option Told) (closed : Result ℕ Io) → IfSome before (λ told_before. IsAccepted told_before (all reader) (contents writer) mid) → Closes (contents after) status closed mid reported
-      → IfSome before (λ told_before. IsNextServed g closed told_before reported old new)
+  pub some_next_served : (before mid reported : Option Traffic) (closed : Result ℕ Io) → IfSome before (λ traffic_before. IsAccepted traffic_before (all reader) (contents writer) mid) → Closes (contents after) status closed mid reported
+      → IfSome before (λ traffic_before. IsNextServed g closed traffic_before reported old new)
   some_next_served None mid reported closed accepted closes = tt
   some_next_served (Some before) mid reported closed accepted closes = next_served before mid reported closed accepted closes
 
 -- none came, and nothing was done
-pub none_came : {S : Type 0} (g : Ghosts S) (before reported : Option Told) (e : Io) (desk : DeskState S) → IfSome before (λ told_before. reported ≡ Some told_before)
-    → IfSome before (λ told_before. IsNextServed g (Err e) told_before reported desk desk)
+pub none_came : {S : Type 0} (g : Ghosts S) (before reported : Option Traffic) (e : Io) (desk : DeskState S) → IfSome before (λ traffic_before. (traffic_before.coming ≡ []) × (reported ≡ Some traffic_before))
+    → IfSome before (λ traffic_before. IsNextServed g (Err e) traffic_before reported desk desk)
 none_came g None reported e desk same = tt
-none_came g (Some before) reported e desk same = inl (refl, refl, same)
+none_came g (Some before) reported e desk same = inl (refl, refl, same.1, same.0)
 
 -- ---- one after another
 
 module _ {S : Type 0} (g : Ghosts S) (old : DeskState S) where
-  none_served : (before : Told) → AreServed g 0 false before (Some before) old old
+  none_served : (before : Traffic) → AreServed g 0 false before (Some before) old old
   none_served before =
       record {
         came = [];
         rest = before.coming;
         sent = [];
         coming = refl;
-        told = ap (λ (x : List Sent). Some (record { coming = before.coming; sent = x })) (sym (append-nil before.sent));
+        traffic = ap (λ (x : List Sent). Some (record { coming = before.coming; sent = x })) (sym (append-nil before.sent));
         exchanged = none;
         each = λ all. refl;
+        all = inl refl;
       }
 
-  pub some_none_served : (before : Option Told) → IfSome before (λ told_before. AreServed g 0 false told_before before old old)
+  pub some_none_served : (before : Option Traffic) → IfSome before (λ traffic_before. AreServed g 0 false traffic_before before old old)
   some_none_served None = tt
   some_none_served (Some before) = none_served before
 
@@ -180,36 +181,43 @@ module _ {S : Type 0} (g : Ghosts S) (old : DeskState S) where
   not_failed true b neither = neither
   not_failed false b neither = refl
 
-  more_after : (n : ℕ) (failed : Bool) (before : Told) (reported : Option Told) (status : Result ℕ Io) (mid new : DeskState S) (came rest : List (List ℕ)) (sent : List Sent) → before.coming ≡ came ++ rest → AreExchanged g old came sent mid → (failed ≡ false → length sent ≡ n)
+  -- of as many as were awaited, one came more
+  came_more : (n : ℕ) (bytes : List ℕ) (rest later : List (List ℕ)) (sent : List Sent) (it : Sent) → rest ≡ bytes ∷ later → (length sent ≡ n) ⊎ (rest ≡ []) → length (sent ++ it ∷ []) ≡ n + 1
+  came_more n bytes rest later sent it next (inl so_far) = omega (arith, length-append sent (it ∷ []))
+  came_more n bytes rest later sent it next (inr gone) = absurd cc
+
+  more_after : (n : ℕ) (failed : Bool) (before : Traffic) (reported : Option Traffic) (status : Result ℕ Io) (mid new : DeskState S) (came rest : List (List ℕ)) (sent : List Sent) → before.coming ≡ came ++ rest → AreExchanged g old came sent mid → (failed ≡ false → length sent ≡ n) → (length sent ≡ n) ⊎ (rest ≡ [])
       → IsNextServed g status (record { coming = rest; sent = before.sent ++ sent }) reported mid new → AreServed g (n + 1) (failed || has_failed status) before reported old new
-  more_after n failed before reported status mid new came rest sent coming done each (inl (is, same, stays)) =
+  more_after n failed before reported status mid new came rest sent coming done each so_far (inl (is, same, stays, gone)) =
       record {
         came = came;
         rest = rest;
         sent = sent;
         coming = coming;
-        told = stays;
+        traffic = stays;
         exchanged = subst (λ (d : DeskState S). AreExchanged g old came sent d) (sym same) done;
         each = λ all. absurd (never_failed failed (has_failed status) is all);
+        all = inr gone;
       }
-  more_after n failed before reported status mid new came rest sent coming done each (inr (bytes, later, it, next, goes, is, exchanged_so)) =
+  more_after n failed before reported status mid new came rest sent coming done each so_far (inr (bytes, later, it, next, goes, is, exchanged_so)) =
       record {
         came = came ++ bytes ∷ [];
         rest = later;
         sent = sent ++ it ∷ [];
         coming = coming ∙ ap (λ (x : List (List ℕ)). came ++ x) next ∙ sym (append_assoc came (bytes ∷ []) later);
-        told = goes ∙ ap (λ (x : List Sent). Some (record { coming = later; sent = x })) (append_assoc before.sent sent (it ∷ []));
+        traffic = goes ∙ ap (λ (x : List Sent). Some (record { coming = later; sent = x })) (append_assoc before.sent sent (it ∷ []));
         exchanged = one_more came sent bytes it mid new done exchanged_so;
-        each = λ all. let so_far = each (not_failed failed (has_failed status) all) in omega (arith, length-append sent (it ∷ []));
+        each = λ all. came_more n bytes rest later sent it next (inl (each (not_failed failed (has_failed status) all)));
+        all = inl (came_more n bytes rest later sent it next so_far);
       }
 
-  more_served : (n : ℕ) (failed : Bool) (before : Told) (mid_told reported : Option Told) (status : Result ℕ Io) (mid new : DeskState S) → AreServed g n failed before mid_told old mid → IfSome mid_told (λ it. IsNextServed g status it reported mid new)
+  more_served : (n : ℕ) (failed : Bool) (before : Traffic) (mid_traffic reported : Option Traffic) (status : Result ℕ Io) (mid new : DeskState S) → AreServed g n failed before mid_traffic old mid → IfSome mid_traffic (λ it. IsNextServed g status it reported mid new)
       → AreServed g (n + 1) (failed || has_failed status) before reported old new
-  more_served n failed before mid_told reported status mid new it next =
-      more_after n failed before reported status mid new it.came it.rest it.sent it.coming it.exchanged it.each
-      (subst (λ (x : Option Told). IfSome x (λ a. IsNextServed g status a reported mid new)) it.told next)
+  more_served n failed before mid_traffic reported status mid new it next =
+      more_after n failed before reported status mid new it.came it.rest it.sent it.coming it.exchanged it.each it.all
+      (subst (λ (x : Option Traffic). IfSome x (λ a. IsNextServed g status a reported mid new)) it.traffic next)
 
-  pub some_more_served : (n : ℕ) (failed : Bool) (before mid_told reported : Option Told) (status : Result ℕ Io) (mid new : DeskState S) → IfSome before (λ told_before. AreServed g n failed told_before mid_told old mid) → IfSome mid_told (λ it. IsNextServed g status it reported mid new)
-      → IfSome before (λ told_before. AreServed g (n + 1) (failed || has_failed status) told_before reported old new)
-  some_more_served n failed None mid_told reported status mid new it next = tt
-  some_more_served n failed (Some before) mid_told reported status mid new it next = more_served n failed before mid_told reported status mid new it next
+  pub some_more_served : (n : ℕ) (failed : Bool) (before mid_traffic reported : Option Traffic) (status : Result ℕ Io) (mid new : DeskState S) → IfSome before (λ traffic_before. AreServed g n failed traffic_before mid_traffic old mid) → IfSome mid_traffic (λ it. IsNextServed g status it reported mid new)
+      → IfSome before (λ traffic_before. AreServed g (n + 1) (failed || has_failed status) traffic_before reported old new)
+  some_more_served n failed None mid_traffic reported status mid new it next = tt
+  some_more_served n failed (Some before) mid_traffic reported status mid new it next = more_served n failed before mid_traffic reported status mid new it next

@@ -10,12 +10,12 @@ use Rattle.office_desk.specs.Leaving.{IsAt}
 use Rattle.office_http.specs.RequestPlans.{is_head_method}
 use Rattle.office_http.specs.Replies.{Response, response, status_number}
 use Rattle.office_http.specs.Requests.{IsRequest, asks, headless}
-use Rattle.office_http.specs.declared.failure.Failure.TheVariants as failure
+use Rattle.office_http.specs.declared.request_error.RequestError.TheVariants as error
 use Rattle.office_http.specs.declared.status.Status.{Status}
 use Rattle.office_http.proofs.PostedActs.{acts_are_no_head}
 use Rattle.office_base.specs.declared.output.Io.{Io}
 use Rattle.office_wire.specs.Calling.{AnsweredAt, CalledAt}
-use Rattle.office_http.specs.Receiving.{HasActs, IsParsedFrom, IsReceived, IsOutOfMemory, Wanted, operation_wanted, cut}
+use Rattle.office_http.specs.Receiving.{HasActs, IsParsedFrom, IsReceived, IsOutOfMemory, OfficeRequest, request_of_kind, cut}
 use Rattle.office_wire.specs.Serving.{AnswersNext, Breaks, GoneReplies, HasReply, InHalves, IsFailed, IsGoneAnswered, IsGoneReply, IsGoneServed, IsGoneToSend, IsNextReady, IsOneServed, IsReply, IsSent, IsServed, IsSomeSent, IsToSend, Replies, Sends, ReportsUnavailable}
 use Rattle.office_http.specs.declared.request.ParsedRequest.{ParsedRequest}
 use Rattle.office_http.specs.declared.request.Received.TheVariants as received
@@ -33,28 +33,28 @@ some_trivial None = tt
 some_trivial (Some a) = tt
 
 pub request_reply : {S : Type 0} (g : Ghosts S) (t : State) (bytes : List ℕ) (unread : Type 0) (h : RequestHead) (rest : List ℕ) (it : ParsedRequest) (is_head : Bool) (r : Response) (desk : DeskState S)
-    → IsRequest (asks h rest) bytes → IsParsedFrom h rest it → is_head ≡ it.is_head → IsServed g t (operation_wanted it.operation) r desk → IsReply g t bytes unread is_head r desk
+    → IsRequest (asks h rest) bytes → IsParsedFrom h rest it → is_head ≡ it.is_head → IsServed g t (request_of_kind it.kind) r desk → IsReply g t bytes unread is_head r desk
 request_reply g t bytes unread h rest it is_head r desk request by same served =
-    inl (asks h rest, request, (same ∙ by.is_head, inl (subst (λ (w : Wanted). IsServed g t w r desk) by.wanted served)))
+    inl (asks h rest, request, (same ∙ by.is_head, inl (subst (λ (w : OfficeRequest). IsServed g t w r desk) by.request served)))
 
 -- acts are not asked for by HEAD
 no_head : (h : RequestHead) (is_head : Bool) → HasActs h → is_head ≡ false → is_head ≡ is_head_method h.method
 no_head h is_head has is = is ∙ sym (acts_are_no_head h has.0 has.1)
 
 out_of_memory_reply : {S : Type 0} (g : Ghosts S) (t : State) (bytes : List ℕ) (unread : Type 0) (h : RequestHead) (rest : List ℕ) (it : Option OutgoingReply) (desk : DeskState S)
-    → IsRequest (asks h rest) bytes → HasActs h → IsFailed failure.Memory false it → IsAt g t desk → IsToSend g t bytes unread it desk
+    → IsRequest (asks h rest) bytes → HasActs h → IsFailed error.Memory false it → IsAt g t desk → IsToSend g t bytes unread it desk
 out_of_memory_reply g t bytes unread h rest None desk request has failed represents = absurd failed
 out_of_memory_reply g t bytes unread h rest (Some it) desk request has failed represents =
     inl (asks h rest, request, (no_head h it.is_head has failed.1, inr ((has, failed.0), represents)))
 
 -- from a poisoned desk
 pub request_gone : (bytes : List ℕ) (unread : Type 0) (h : RequestHead) (rest : List ℕ) (it : ParsedRequest) (is_head : Bool) (r : Response)
-    → IsRequest (asks h rest) bytes → IsParsedFrom h rest it → is_head ≡ it.is_head → IsGoneServed (operation_wanted it.operation) r → IsGoneReply bytes unread is_head r
+    → IsRequest (asks h rest) bytes → IsParsedFrom h rest it → is_head ≡ it.is_head → IsGoneServed (request_of_kind it.kind) r → IsGoneReply bytes unread is_head r
 request_gone bytes unread h rest it is_head r request by same served =
-    inl (asks h rest, request, (same ∙ by.is_head, inl (subst (λ (w : Wanted). IsGoneServed w r) by.wanted served)))
+    inl (asks h rest, request, (same ∙ by.is_head, inl (subst (λ (w : OfficeRequest). IsGoneServed w r) by.request served)))
 
 out_of_memory_gone : (bytes : List ℕ) (unread : Type 0) (h : RequestHead) (rest : List ℕ) (it : Option OutgoingReply)
-    → IsRequest (asks h rest) bytes → HasActs h → IsFailed failure.Memory false it → IsGoneToSend bytes unread it
+    → IsRequest (asks h rest) bytes → HasActs h → IsFailed error.Memory false it → IsGoneToSend bytes unread it
 out_of_memory_gone bytes unread h rest None request has failed = absurd failed
 out_of_memory_gone bytes unread h rest (Some it) request has failed =
     inl (asks h rest, request, (no_head h it.is_head has failed.1, inr (has, failed.0)))
@@ -89,57 +89,57 @@ module _ {S : Type 0} (g : Ghosts S) (all : Option (List ℕ)) (unread : Type 0)
       → AnsweredAt g desk desk (λ t. IsNextReady g t all unread (Ok None) desk) (IfSome all (λ bytes. IsGoneToSend bytes unread None)) (ReportsUnavailable None)
   silent_next desk came = unchanged desk None (λ bytes. IsReceived received.Nothing bytes) came (λ t bytes at it. (it, at)) (λ bytes it. it)
 
-  headless_to : (t : State) (desk : DeskState S) (next : Option OutgoingReply) (bytes : List ℕ) → IsFailed failure.Head false next → IsAt g t desk → IsRequest headless bytes → IsToSend g t bytes unread next desk
+  headless_to : (t : State) (desk : DeskState S) (next : Option OutgoingReply) (bytes : List ℕ) → IsFailed error.Head false next → IsAt g t desk → IsRequest headless bytes → IsToSend g t bytes unread next desk
   headless_to t desk None bytes failed at it = absurd failed
   headless_to t desk (Some sent) bytes failed at it = inl (headless, it, (failed.1, failed.0, at))
 
-  headless_gone : (next : Option OutgoingReply) (bytes : List ℕ) → IsFailed failure.Head false next → IsRequest headless bytes → IsGoneToSend bytes unread next
+  headless_gone : (next : Option OutgoingReply) (bytes : List ℕ) → IsFailed error.Head false next → IsRequest headless bytes → IsGoneToSend bytes unread next
   headless_gone None bytes failed it = absurd failed
   headless_gone (Some sent) bytes failed it = inl (headless, it, (failed.1, failed.0))
 
-  pub headless_next : (desk : DeskState S) (next : Option OutgoingReply) → IsFailed failure.Head false next → IfSome all (λ bytes. IsReceived received.Headless bytes)
+  pub headless_next : (desk : DeskState S) (next : Option OutgoingReply) → IsFailed error.Head false next → IfSome all (λ bytes. IsReceived received.Headless bytes)
       → AnsweredAt g desk desk (λ t. IsNextReady g t all unread (Ok next) desk) (IfSome all (λ bytes. IsGoneToSend bytes unread next)) (ReportsUnavailable next)
   headless_next desk next failed came =
       unchanged desk next (λ bytes. IsReceived received.Headless bytes) came (λ t bytes at it. headless_to t desk next bytes failed at it) (λ bytes it. headless_gone next bytes failed it)
 
-  unread_to : (t : State) (desk : DeskState S) (next : Option OutgoingReply) (bytes : List ℕ) → unread → IsFailed failure.Memory false next → IsAt g t desk → IsToSend g t bytes unread next desk
+  unread_to : (t : State) (desk : DeskState S) (next : Option OutgoingReply) (bytes : List ℕ) → unread → IsFailed error.Memory false next → IsAt g t desk → IsToSend g t bytes unread next desk
   unread_to t desk None bytes is failed at = absurd failed
   unread_to t desk (Some sent) bytes is failed at = inr (is, failed.1, failed.0, at)
 
-  unread_gone : (next : Option OutgoingReply) (bytes : List ℕ) → unread → IsFailed failure.Memory false next → IsGoneToSend bytes unread next
+  unread_gone : (next : Option OutgoingReply) (bytes : List ℕ) → unread → IsFailed error.Memory false next → IsGoneToSend bytes unread next
   unread_gone None bytes is failed = absurd failed
   unread_gone (Some sent) bytes is failed = inr (is, failed.1, failed.0)
 
   -- memory ran out before a byte was read
-  pub unread_next : (desk : DeskState S) (next : Option OutgoingReply) → unread → IsFailed failure.Memory false next → IfSome all (λ bytes. IsOutOfMemory stop.Memory bytes)
+  pub unread_next : (desk : DeskState S) (next : Option OutgoingReply) → unread → IsFailed error.Memory false next → IfSome all (λ bytes. IsOutOfMemory stop.Memory bytes)
       → AnsweredAt g desk desk (λ t. IsNextReady g t all unread (Ok next) desk) (IfSome all (λ bytes. IsGoneToSend bytes unread next)) (ReportsUnavailable next)
   unread_next desk next is failed came =
       unchanged desk next (λ bytes. IsOutOfMemory stop.Memory bytes) came (λ t bytes at it. unread_to t desk next bytes is failed at) (λ bytes it. unread_gone next bytes is failed)
 
   -- or for the routes, before the reader was asked for a byte
-  pub unrouted_next : (desk : DeskState S) (next : Option OutgoingReply) → unread → IsFailed failure.Memory false next
+  pub unrouted_next : (desk : DeskState S) (next : Option OutgoingReply) → unread → IsFailed error.Memory false next
       → AnsweredAt g desk desk (λ t. IsNextReady g t all unread (Ok next) desk) (IfSome all (λ bytes. IsGoneToSend bytes unread next)) (ReportsUnavailable next)
   unrouted_next desk next is failed =
       unchanged desk next (λ bytes. Unit {0}) (some_trivial all) (λ t bytes at it. unread_to t desk next bytes is failed at) (λ bytes it. unread_gone next bytes is failed)
 
   -- or for the body of acts
-  pub out_of_memory_next : (desk : DeskState S) (next : Option OutgoingReply) → IsFailed failure.Memory false next → IfSome all (λ bytes. IsOutOfMemory stop.MemoryForBody bytes)
+  pub out_of_memory_next : (desk : DeskState S) (next : Option OutgoingReply) → IsFailed error.Memory false next → IfSome all (λ bytes. IsOutOfMemory stop.MemoryForBody bytes)
       → AnsweredAt g desk desk (λ t. IsNextReady g t all unread (Ok next) desk) (IfSome all (λ bytes. IsGoneToSend bytes unread next)) (ReportsUnavailable next)
   out_of_memory_next desk next failed came =
       unchanged desk next (λ bytes. IsOutOfMemory stop.MemoryForBody bytes) came
       (λ t bytes at it. out_of_memory_reply g t bytes unread it.0 it.1 next desk it.2 it.3 failed at) (λ bytes it. out_of_memory_gone bytes unread it.0 it.1 next it.2 it.3 failed)
 
   -- a request was answered
-  pub request_next : (old new : DeskState S) (request : ParsedRequest) (sent : OutgoingReply) → IfSome all (λ bytes. IsReceived (received.Request request) bytes) → sent.is_head ≡ request.is_head → HasReply g (operation_wanted request.operation) (response sent.reply) old new
+  pub request_next : (old new : DeskState S) (request : ParsedRequest) (sent : OutgoingReply) → IfSome all (λ bytes. IsReceived (received.Request request) bytes) → sent.is_head ≡ request.is_head → HasReply g (request_of_kind request.kind) (response sent.reply) old new
       → AnsweredAt g old new (λ t. IsNextReady g t all unread (Ok (Some sent)) new) (IfSome all (λ bytes. IsGoneToSend bytes unread (Some sent))) (ReportsUnavailable (Some sent))
   request_next old new request sent came same it =
       let r = response sent.reply in
-      answered g old new (λ t. IsServed g t (operation_wanted request.operation) r new) (λ t. IsNextReady g t all unread (Ok (Some sent)) new) _ _ _ _ it
+      answered g old new (λ t. IsServed g t (request_of_kind request.kind) r new) (λ t. IsNextReady g t all unread (Ok (Some sent)) new) _ _ _ _ it
       (λ t served.
       record {
         ok = some_more all (λ bytes. IsReceived (received.Request request) bytes) (λ bytes. IsToSend g t bytes unread (Some sent) new) came
             (λ bytes is. request_reply g t bytes unread is.0 is.1 request sent.is_head r new is.2 is.3 same served);
-        leaves = served_leaves g t (operation_wanted request.operation) r new served;
+        leaves = served_leaves g t (request_of_kind request.kind) r new served;
       })
       (λ gone. some_more all (λ bytes. IsReceived (received.Request request) bytes) (λ bytes. IsGoneToSend bytes unread (Some sent)) came
       (λ bytes is. request_gone bytes unread is.0 is.1 request sent.is_head r is.2 is.3 same gone))

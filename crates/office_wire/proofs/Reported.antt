@@ -6,33 +6,33 @@ use Rattle.office_rules.specs.declared.act.Act.{Act}
 use Rattle.office_base.specs.declared.memory.Memory.{Memory}
 use Rattle.office_desk.specs.Desk.{DeskState}
 use Rattle.office_json.specs.Lists.{NoActs, acts_in}
-use Rattle.office_http.specs.Replies.{Response, failure_response}
-use Rattle.office_http.specs.declared.failure.Failure.TheVariants as failure
+use Rattle.office_http.specs.Replies.{Response, error_response}
+use Rattle.office_http.specs.declared.request_error.RequestError.TheVariants as error
 use Rattle.office_http.specs.declared.reply.Reply.{Reply}
 use Rattle.office_wire.specs.Answering.{AnyAnswer, ArePerformed, ArePerformedBy, IsAnswered, IsGiven, IsGivenAt, IsGivenUnavailable, IsGoneGiven, IsPerformed, IsUnavailable, PerformsActs, RunsOutOfMemory, Serves, TakesMemory, gone_acts, gone_response}
-use Rattle.office_http.specs.Receiving.{Wanted, acts, requested}
+use Rattle.office_http.specs.Receiving.{OfficeRequest, acts, requested}
 use Rattle.office_http.specs.declared.path_request.PathRequest.TheVariants as path
 use Rattle.office_wire.specs.Serving.{HasReply}
 use Rattle.office_wire.proofs.Calls.{answered}
 use Rattle.office_wire.proofs.Unavailable.{memory_unavailable}
 
 -- what is served with the answer that was given, or with any where memory ran out for it
-given : {S : Type 0} (g : Ghosts S) (t : State) (wanted : Wanted) (reply : Result Reply Memory) (desk : DeskState S) → Serves (IsGiven reply) g t wanted desk
-    → (Serves AnyAnswer g t wanted desk → RunsOutOfMemory g t wanted desk) → IsGivenAt g t wanted reply desk
-given g t wanted (Ok it) desk served out = served
-given g t wanted (Err e) desk served out = out served
+given : {S : Type 0} (g : Ghosts S) (t : State) (request : OfficeRequest) (reply : Result Reply Memory) (desk : DeskState S) → Serves (IsGiven reply) g t request desk
+    → (Serves AnyAnswer g t request desk → RunsOutOfMemory g t request desk) → IsGivenAt g t request reply desk
+given g t request (Ok it) desk served out = served
+given g t request (Err e) desk served out = out served
 
 -- and from a poisoned desk
-pub gone_given : (wanted : Wanted) (reply : Result Reply Memory) → TakesMemory wanted → IsGiven reply (gone_response wanted) → IsGoneGiven wanted reply
-gone_given wanted (Ok it) takes is = is
-gone_given wanted (Err e) takes is = takes
+pub gone_given : (request : OfficeRequest) (reply : Result Reply Memory) → TakesMemory request → IsGiven reply (gone_response request) → IsGoneGiven request reply
+gone_given request (Ok it) takes is = is
+gone_given request (Err e) takes is = takes
 
-performed : {S : Type 0} (g : Ghosts S) (wanted : Wanted) (reply : Result Reply Memory) (old new : DeskState S) → TakesMemory wanted
-    → ((t : State) → Serves AnyAnswer g t wanted new → RunsOutOfMemory g t wanted new) → IsPerformed g wanted reply old new → IsAnswered g wanted reply old new
-performed g wanted reply old new takes out it =
-    answered g old new (λ t. Serves (IsGiven reply) g t wanted new) (λ t. IsGivenAt g t wanted reply new)
-    (IsGiven reply (gone_response wanted)) (IsGoneGiven wanted reply) (IsGivenUnavailable reply) (IsGivenUnavailable reply) it
-    (λ t served. given g t wanted reply new served (out t)) (λ gone. gone_given wanted reply takes gone) (λ reported. reported)
+performed : {S : Type 0} (g : Ghosts S) (request : OfficeRequest) (reply : Result Reply Memory) (old new : DeskState S) → TakesMemory request
+    → ((t : State) → Serves AnyAnswer g t request new → RunsOutOfMemory g t request new) → IsPerformed g request reply old new → IsAnswered g request reply old new
+performed g request reply old new takes out it =
+    answered g old new (λ t. Serves (IsGiven reply) g t request new) (λ t. IsGivenAt g t request reply new)
+    (IsGiven reply (gone_response request)) (IsGoneGiven request reply) (IsGivenUnavailable reply) (IsGivenUnavailable reply) it
+    (λ t served. given g t request reply new served (out t)) (λ gone. gone_given request reply takes gone) (λ reported. reported)
 
 -- the open run
 pub run_performed : {S : Type 0} (g : Ghosts S) (reply : Result Reply Memory) (old new : DeskState S) → IsPerformed g (requested path.Resume) reply old new → IsAnswered g (requested path.Resume) reply old new
@@ -48,7 +48,7 @@ body_performed g body seen done reply old new same read it =
     (λ gone. subst (λ (x : Result (List Act) NoActs). IsGiven reply (gone_acts x)) (sym read) gone) (λ reported. reported))
 
 -- memory ran out for the answer, and that is reported
-pub out_of_memory : {S : Type 0} (g : Ghosts S) (wanted : Wanted) (e : Memory) (r : Response) (old new : DeskState S) → r ≡ failure_response failure.Memory → IsAnswered g wanted (Err e) old new → HasReply g wanted r old new
-out_of_memory g wanted e r old new is it =
-    answered g old new (λ t. RunsOutOfMemory g t wanted new) _ _ _ _ (IsUnavailable r) it
+pub out_of_memory : {S : Type 0} (g : Ghosts S) (request : OfficeRequest) (e : Memory) (r : Response) (old new : DeskState S) → r ≡ error_response error.Memory → IsAnswered g request (Err e) old new → HasReply g request r old new
+out_of_memory g request e r old new is it =
+    answered g old new (λ t. RunsOutOfMemory g t request new) _ _ _ _ (IsUnavailable r) it
     (λ t runs_out_of_memory. inr (is, runs_out_of_memory)) (λ takes. inr (is, takes)) (λ reported. subst (λ (x : Response). IsUnavailable x) (sym is) memory_unavailable)

@@ -1,6 +1,6 @@
 -- A session is determined by what came, and goes on with each further request.
 use Rattle.std.proofs.Common.{◌≡◌, ◌∙◌, ap, refl, subst, sym, ℕ, ℤ, List, [], ◌∷◌, ◌++◌, Option, Some, None}
-use Rattle.office_http.specs.Receiving.{Wanted, acts, cut, refused, requested, wanted}
+use Rattle.office_http.specs.Receiving.{OfficeRequest, acts, cut, refused, requested, office_request}
 use Rattle.office_http.specs.Replies.{Response, response_text}
 use Rattle.office_http.specs.RequestPlans.{is_head_method}
 use Rattle.office_http.specs.Requests.{Request, IsRequest, nothing, headless, asks}
@@ -24,7 +24,7 @@ same_overdue s (Some day) None r q one other = one ∙ sym other
 same_overdue s (Some day) (Some n) r q (rows, are, is) (other_rows, are_too, too) =
     is ∙ ap (λ (x : List DueRowView). overdue_response n x) (same_overdue_rows s.office day n rows other_rows are are_too) ∙ sym too
 
-same_answer : (s : State) (it : Wanted) (r q : Response) → IsAnswer s it r → IsAnswer s it q → r ≡ q
+same_answer : (s : State) (it : OfficeRequest) (r q : Response) → IsAnswer s it r → IsAnswer s it q → r ≡ q
 same_answer s (refused check) r q one other = one ∙ sym other
 same_answer s cut r q one other = one ∙ sym other
 same_answer s (acts body) r q one other = one ∙ sym other
@@ -39,7 +39,7 @@ same_bytes : (s : State) (q : Request) (out other_out : List ℕ) → IsAnswered
 same_bytes s nothing out other_out one other = one ∙ sym other
 same_bytes s headless out other_out one other = one ∙ sym other
 same_bytes s (asks h rest) out other_out (r, one, is) (p, other, too) =
-    is ∙ ap (λ (x : Response). response_text (is_head_method h.method) x) (same_answer s (wanted h rest) r p one other) ∙ sym too
+    is ∙ ap (λ (x : Response). response_text (is_head_method h.method) x) (same_answer s (office_request h rest) r p one other) ∙ sym too
 
 -- ---- one session
 

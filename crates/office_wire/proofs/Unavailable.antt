@@ -1,8 +1,8 @@
 -- Answers that report a fault.
 use Rattle.std.proofs.Common.{◌≡◌, refl, subst, sym, List, Result, Ok, Err}
 use Rattle.std.specs.Prelude.{IfOk}
-use Rattle.office_http.specs.Replies.{Response, failure_response}
-use Rattle.office_http.specs.declared.failure.Failure.TheVariants as failure
+use Rattle.office_http.specs.Replies.{Response, error_response}
+use Rattle.office_http.specs.declared.request_error.RequestError.TheVariants as error
 use Rattle.office_rules.specs.declared.answer.Answer.{Answer}
 use Rattle.office_store.specs.declared.fault.Fault.{Fault}
 use Rattle.office_wire.specs.Answering.{IsUnavailable}
@@ -21,6 +21,6 @@ pub stopped_unavailable : {A E : Type 0} (to : A → Response) (r : Result A E) 
 unfolding json_response
 stopped_unavailable to r answers f same = unavailable to r (stopped_response answers f) refl same
 
-pub memory_unavailable : IsUnavailable (failure_response failure.Memory)
-unfolding failure_response
+pub memory_unavailable : IsUnavailable (error_response error.Memory)
+unfolding error_response
 memory_unavailable = refl

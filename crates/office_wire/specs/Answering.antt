@@ -18,14 +18,14 @@ use Rattle.office_desk.specs.Leaving.{IsAt}
 use Rattle.office_desk.specs.Outcomes.{ActsCameTo, ActsLead, ActsOutcome, all_done, stopped}
 use Rattle.office_desk.specs.Resumptions.{RunCameTo, RunOutcome, none_open, run_closed, run_stopped}
 use Rattle.office_json.specs.Lists.{NoActs, not_json, bad_act, acts_in}
-use Rattle.office_http.specs.Replies.{Response, check_response, failure_response, response}
-use Rattle.office_http.specs.declared.failure.Failure.{Failure}
-use Rattle.office_http.specs.declared.failure.Failure.TheVariants as failure
+use Rattle.office_http.specs.Replies.{Response, check_response, error_response, response}
+use Rattle.office_http.specs.declared.request_error.RequestError.{RequestError}
+use Rattle.office_http.specs.declared.request_error.RequestError.TheVariants as error
 use Rattle.office_http.specs.declared.reply.Reply.{Reply}
 use Rattle.office_http.specs.declared.status.Status.TheVariants as status
 use Rattle.office_wire.specs.Calling.{AnsweredAt}
 use Rattle.office_wire.specs.declared.answers.Reported.{Reported}
-use Rattle.office_http.specs.Receiving.{Wanted, acts, cut, refused, requested}
+use Rattle.office_http.specs.Receiving.{OfficeRequest, acts, cut, refused, requested}
 use Rattle.office_http.specs.declared.path_request.PathRequest.TheVariants as path
 use Rattle.office_wire.specs.Replies.{acts_response, answer_response, bad_act_response, certificate_response, content_response, due_response, fault_response, overdue_response, record_response, stopped_response}
 
@@ -33,8 +33,8 @@ use Rattle.office_wire.specs.Replies.{acts_response, answer_response, bad_act_re
 
 -- the answer to acts that came to this
 abbrev pub acts_reply : ActsOutcome → Response
-acts_reply (all_done told) = acts_response told
-acts_reply (stopped told f) = stopped_response told f
+acts_reply (all_done replies) = acts_response replies
+acts_reply (stopped replies f) = stopped_response replies f
 
 -- acts were performed: they came to this, and that is answered
 pub record ArePerformed {S : Type 0} (Reported : Response → Type 0) (g : Ghosts S) (t : State) (done : List Act)
@@ -48,7 +48,7 @@ pub record ArePerformed {S : Type 0} (Reported : Response → Type 0) (g : Ghost
 abbrev pub PerformsActs : {S : Type 0} → (Response → Type 0) → Ghosts S → State → Result (List Act) NoActs
     → DeskState S → Type 0
 PerformsActs Reported g t (Ok done) desk = ArePerformed Reported g t done desk
-PerformsActs Reported g t (Err not_json) desk = Reported (failure_response failure.Json) × IsAt g t desk
+PerformsActs Reported g t (Err not_json) desk = Reported (error_response error.Json) × IsAt g t desk
 PerformsActs Reported g t (Err (bad_act place why)) desk = Reported (bad_act_response place why) × IsAt g t desk
 
 -- ---- the open run
@@ -74,7 +74,7 @@ abbrev pub ReportsNone : {S : Type 0} → (Response → Type 0) → Ghosts S →
 ReportsNone Reported g t response desk = Reported response × IsAt g t desk
 
 abbrev pub ReportsRecord : {S : Type 0} → (Response → Type 0) → Ghosts S → State → Option ℕ → DeskState S → Type 0
-ReportsRecord Reported g t None desk = ReportsNone Reported g t (failure_response failure.Record) desk
+ReportsRecord Reported g t None desk = ReportsNone Reported g t (error_response error.Record) desk
 ReportsRecord Reported g t (Some r) desk =
     Reports Reported g t (record_response (record_view t.office r) (ending_entry t.office r)) desk
 
@@ -85,12 +85,12 @@ content_reply (Err f) = fault_response f
 
 -- the content of the record, or why it is not reported
 abbrev pub ReportsContent : {S : Type 0} → (Response → Type 0) → Ghosts S → State → Option ℕ → DeskState S → Type 0
-ReportsContent Reported g t None desk = ReportsNone Reported g t (failure_response failure.Content) desk
+ReportsContent Reported g t None desk = ReportsNone Reported g t (error_response error.Content) desk
 ReportsContent Reported g t (Some r) desk =
     (found : Result (Option (List ℕ)) Fault) × Reported (content_reply found) × IsContentRead g t r found desk
 
 abbrev pub ReportsDue : {S : Type 0} → (Response → Type 0) → Ghosts S → State → Option ℤ → DeskState S → Type 0
-ReportsDue Reported g t None desk = ReportsNone Reported g t (failure_response failure.Day) desk
+ReportsDue Reported g t None desk = ReportsNone Reported g t (error_response error.Day) desk
 ReportsDue Reported g t (Some day) desk =
     (((rows : List DueRowView) × AreDueRows t.office day rows × Reported (due_response rows))
     ⊎ Reported (fault_response fault.Memory)) × IsAt g t desk
@@ -98,14 +98,14 @@ ReportsDue Reported g t (Some day) desk =
 -- what is overdue on a day, so many days after the due day; of a bad day and a bad count the day is reported
 abbrev pub ReportsOverdue : {S : Type 0} → (Response → Type 0) → Ghosts S → State → Option ℤ → Option ℕ → DeskState S
     → Type 0
-ReportsOverdue Reported g t None count desk = ReportsNone Reported g t (failure_response failure.Day) desk
-ReportsOverdue Reported g t (Some day) None desk = ReportsNone Reported g t (failure_response failure.Count) desk
+ReportsOverdue Reported g t None count desk = ReportsNone Reported g t (error_response error.Day) desk
+ReportsOverdue Reported g t (Some day) None desk = ReportsNone Reported g t (error_response error.Count) desk
 ReportsOverdue Reported g t (Some day) (Some n) desk =
     (((rows : List DueRowView) × AreOverdueRows t.office day n rows × Reported (overdue_response n rows))
     ⊎ Reported (fault_response fault.Memory)) × IsAt g t desk
 
 abbrev pub ReportsCertificate : {S : Type 0} → (Response → Type 0) → Ghosts S → State → Option ℕ → DeskState S → Type 0
-ReportsCertificate Reported g t None desk = ReportsNone Reported g t (failure_response failure.Certificate) desk
+ReportsCertificate Reported g t None desk = ReportsNone Reported g t (error_response error.Certificate) desk
 ReportsCertificate Reported g t (Some run) desk =
     Reports Reported g t (certificate_response (get t.office.certificates run)) desk
 
@@ -118,10 +118,10 @@ IsReportedOf s r (Some it) = (record_view s r ≡ Some it.view) × (ending_entry
 
 -- ---- all of it
 
--- what is wanted of the office in a state is answered, and the desk is where that leaves it
-abbrev pub Serves : {S : Type 0} → (Response → Type 0) → Ghosts S → State → Wanted → DeskState S → Type 0
+-- what is requested of the office in a state is answered, and the desk is where that leaves it
+abbrev pub Serves : {S : Type 0} → (Response → Type 0) → Ghosts S → State → OfficeRequest → DeskState S → Type 0
 Serves Reported g t (refused check) desk = ReportsNone Reported g t (check_response check) desk
-Serves Reported g t cut desk = ReportsNone Reported g t (failure_response failure.Body) desk
+Serves Reported g t cut desk = ReportsNone Reported g t (error_response error.Body) desk
 Serves Reported g t (acts body) desk = PerformsActs Reported g t (acts_in body) desk
 Serves Reported g t (requested path.Resume) desk = Resumes Reported g t desk
 Serves Reported g t (requested (path.Record r)) desk = ReportsRecord Reported g t r desk
@@ -131,37 +131,37 @@ Serves Reported g t (requested (path.Overdue day n)) desk = ReportsOverdue Repor
 Serves Reported g t (requested (path.Certificate run)) desk = ReportsCertificate Reported g t run desk
 
 -- it was served with this answer
-abbrev pub Answers : {S : Type 0} → Ghosts S → State → Wanted → Response → DeskState S → Type 0
-Answers g t wanted response desk = Serves (λ reported. response ≡ reported) g t wanted desk
+abbrev pub Answers : {S : Type 0} → Ghosts S → State → OfficeRequest → Response → DeskState S → Type 0
+Answers g t request response desk = Serves (λ reported. response ≡ reported) g t request desk
 
 -- ---- a poisoned desk
 
 -- acts are stopped before the first one
 abbrev pub gone_acts : Result (List Act) NoActs → Response
 gone_acts (Ok all) = stopped_response [] fault.Reopen
-gone_acts (Err not_json) = failure_response failure.Json
+gone_acts (Err not_json) = error_response error.Json
 gone_acts (Err (bad_act place why)) = bad_act_response place why
 
 -- nothing is reported of what a number or a day names
-abbrev pub gone_reading : {A : Type 0} → Failure → Option A → Response
-gone_reading why None = failure_response why
+abbrev pub gone_reading : {A : Type 0} → RequestError → Option A → Response
+gone_reading why None = error_response why
 gone_reading why (Some it) = fault_response fault.Reopen
 
 abbrev pub gone_overdue : Option ℤ → Option ℕ → Response
-gone_overdue None count = failure_response failure.Day
-gone_overdue (Some day) count = gone_reading failure.Count count
+gone_overdue None count = error_response error.Day
+gone_overdue (Some day) count = gone_reading error.Count count
 
 -- the answer of a poisoned desk: fault 32 in place of all that it would do or report
-abbrev pub gone_response : Wanted → Response
+abbrev pub gone_response : OfficeRequest → Response
 gone_response (refused check) = check_response check
-gone_response cut = failure_response failure.Body
+gone_response cut = error_response error.Body
 gone_response (acts body) = gone_acts (acts_in body)
 gone_response (requested path.Resume) = fault_response fault.Reopen
-gone_response (requested (path.Record r)) = gone_reading failure.Record r
-gone_response (requested (path.Content r)) = gone_reading failure.Content r
-gone_response (requested (path.Due day)) = gone_reading failure.Day day
+gone_response (requested (path.Record r)) = gone_reading error.Record r
+gone_response (requested (path.Content r)) = gone_reading error.Content r
+gone_response (requested (path.Due day)) = gone_reading error.Day day
 gone_response (requested (path.Overdue day count)) = gone_overdue day count
-gone_response (requested (path.Certificate run)) = gone_reading failure.Certificate run
+gone_response (requested (path.Certificate run)) = gone_reading error.Certificate run
 
 -- an answer that reports a fault, or lack of memory
 abbrev pub IsUnavailable : Response → Type 0
@@ -174,7 +174,7 @@ abbrev pub AnyAnswer : Response → Type 0
 AnyAnswer r = Unit {0}
 
 -- what takes memory to answer: a failed check, a cut body and what names nothing are answered from fixed bytes
-abbrev pub TakesMemory : Wanted → Type 0
+abbrev pub TakesMemory : OfficeRequest → Type 0
 TakesMemory (refused check) = ⊥
 TakesMemory cut = ⊥
 TakesMemory (acts body) = Unit {0}
@@ -187,7 +187,7 @@ TakesMemory (requested (path.Certificate run)) = IsSome run
 
 -- memory ran out for its answer: what it asks for was done, but for acts that could not be read; of a content only the
 -- answer to a fault takes memory
-abbrev pub RunsOutOfMemory : {S : Type 0} → Ghosts S → State → Wanted → DeskState S → Type 0
+abbrev pub RunsOutOfMemory : {S : Type 0} → Ghosts S → State → OfficeRequest → DeskState S → Type 0
 RunsOutOfMemory g t (refused check) desk = ⊥
 RunsOutOfMemory g t cut desk = ⊥
 RunsOutOfMemory g t (acts body) desk = IsAt g t desk ⊎ PerformsActs AnyAnswer g t (acts_in body) desk
@@ -216,29 +216,31 @@ ArePerformedBy g done given old new =
     AnsweredAt g old new (λ t. ArePerformed (IsGiven given) g t done new)
     (IsGiven given (stopped_response [] fault.Reopen)) (IsGivenUnavailable given)
 
--- what is wanted was done and answered
-abbrev pub IsPerformed : {S : Type 0} → Ghosts S → Wanted → Result Reply Memory → DeskState S → DeskState S → Type 0
-IsPerformed g wanted given old new =
-    AnsweredAt g old new (λ t. Serves (IsGiven given) g t wanted new) (IsGiven given (gone_response wanted))
+-- what is requested was done and answered
+abbrev pub IsPerformed : {S : Type 0} → Ghosts S → OfficeRequest → Result Reply Memory → DeskState S → DeskState S
+    → Type 0
+IsPerformed g request given old new =
+    AnsweredAt g old new (λ t. Serves (IsGiven given) g t request new) (IsGiven given (gone_response request))
     (IsGivenUnavailable given)
 
 -- at a state it was served with the answer that was given, or memory ran out for that
-abbrev pub IsGivenAt : {S : Type 0} → Ghosts S → State → Wanted → Result Reply Memory → DeskState S → Type 0
-IsGivenAt g t wanted given desk =
-    MatchResult given (λ reply. Answers g t wanted (response reply) desk) (λ _. RunsOutOfMemory g t wanted desk)
+abbrev pub IsGivenAt : {S : Type 0} → Ghosts S → State → OfficeRequest → Result Reply Memory → DeskState S → Type 0
+IsGivenAt g t request given desk =
+    MatchResult given (λ reply. Answers g t request (response reply) desk) (λ _. RunsOutOfMemory g t request desk)
 
 -- the answer that was given is that of a poisoned desk, or memory ran out for what takes it
-abbrev pub IsGoneGiven : Wanted → Result Reply Memory → Type 0
-IsGoneGiven wanted given =
-    MatchResult given (λ reply. response reply ≡ gone_response wanted) (λ _. TakesMemory wanted)
+abbrev pub IsGoneGiven : OfficeRequest → Result Reply Memory → Type 0
+IsGoneGiven request given =
+    MatchResult given (λ reply. response reply ≡ gone_response request) (λ _. TakesMemory request)
 
--- what is wanted was answered, or memory ran out for the answer
-abbrev pub IsAnswered : {S : Type 0} → Ghosts S → Wanted → Result Reply Memory → DeskState S → DeskState S → Type 0
-IsAnswered g wanted given old new =
-    AnsweredAt g old new (λ t. IsGivenAt g t wanted given new) (IsGoneGiven wanted given) (IsGivenUnavailable given)
+-- what is requested was answered, or memory ran out for the answer
+abbrev pub IsAnswered : {S : Type 0} → Ghosts S → OfficeRequest → Result Reply Memory → DeskState S → DeskState S
+    → Type 0
+IsAnswered g request given old new =
+    AnsweredAt g old new (λ t. IsGivenAt g t request given new) (IsGoneGiven request given) (IsGivenUnavailable given)
 
--- what is wanted was read of a desk, which stays as it is, and answered
-pub record IsRead {S : Type 0} (g : Ghosts S) (wanted : Wanted) (given : Result Reply Memory) (desk : DeskState S) :
-    Type 0 where
-  pub answered : (t : State) → IsAt g t desk → IsGivenAt g t wanted given desk
-  pub gone : IsTrue desk.is_poisoned → IsGoneGiven wanted given
+-- what is requested was read of a desk, which stays as it is, and answered
+pub record IsRead {S : Type 0} (g : Ghosts S) (request : OfficeRequest) (given : Result Reply Memory)
+    (desk : DeskState S) : Type 0 where
+  pub answered : (t : State) → IsAt g t desk → IsGivenAt g t request given desk
+  pub gone : IsTrue desk.is_poisoned → IsGoneGiven request given

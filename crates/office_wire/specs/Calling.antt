@@ -8,15 +8,15 @@ use Rattle.office_desk.specs.Desk.{DeskState}
 use Rattle.office_desk.specs.Leaving.{IsAt}
 
 -- from each state at which the desk was, over a disk that is clean, this was done
-pub record CalledAt {S : Type 0} (g : Ghosts S) (old new : DeskState S) (Did : State → Type 0) : Type 0 where
+pub record CalledAt {S : Type 0} (g : Ghosts S) (old new : DeskState S) (DoneFrom : State → Type 0) : Type 0 where
   pub clean : HasCleanDisk (state g new.held) → HasCleanDisk (state g old.held)
   pub shield : (state g old.held).IsShielded → (state g new.held).IsShielded
-  pub did : (t : State) → HasCleanDisk (state g new.held) → IsAt g t old → Did t
+  pub did : (t : State) → HasCleanDisk (state g new.held) → IsAt g t old → DoneFrom t
 
 -- and this is answered by a poisoned desk before, which stays as it was; and this where it is poisoned here
-pub record AnsweredAt {S : Type 0} (g : Ghosts S) (old new : DeskState S) (Did : State → Type 0)
-    (Gone Reported : Type 0) : Type 0 where
-  pub call : CalledAt g old new Did
+pub record AnsweredAt {S : Type 0} (g : Ghosts S) (old new : DeskState S) (DoneFrom : State → Type 0)
+    (IfPoisoned OnPoisoning : Type 0) : Type 0 where
+  pub call : CalledAt g old new DoneFrom
   pub kept : IsTrue old.is_poisoned → new ≡ old
-  pub gone : IsTrue old.is_poisoned → Gone
-  pub reported : old.is_poisoned ≡ false → IsTrue new.is_poisoned → Reported
+  pub gone : IsTrue old.is_poisoned → IfPoisoned
+  pub reported : old.is_poisoned ≡ false → IsTrue new.is_poisoned → OnPoisoning

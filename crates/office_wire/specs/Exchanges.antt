@@ -6,7 +6,7 @@ use Rattle.office_desk.specs.Desk.{DeskState}
 use Rattle.office_wire.specs.Calling.{AnsweredAt, CalledAt}
 use Rattle.office_wire.specs.Connections.{has_failed}
 use Rattle.office_wire.specs.Serving.{Breaks, IsGoneAnswered, IsOneServed}
-use Rattle.office_wire.specs.Sources.{Sent, Told}
+use Rattle.office_wire.specs.Sources.{Sent, Traffic}
 
 -- all bytes of a connection were answered at a desk, and this went out: the whole answer; or at an error its first bytes,
 -- or none
@@ -28,22 +28,23 @@ pub data AreExchanged {S : Type 0} (g : Ghosts S) (first : DeskState S) : List (
       → AreExchanged g first came sent old → IsExchanged g bytes it old new
       → AreExchanged g first (came ++ bytes ∷ []) (sent ++ it ∷ []) new
 
--- one connection of a source that reports its bytes: none came, and nothing was done; or the next one was served
-abbrev pub IsNextServed : {S : Type 0} → Ghosts S → Result ℕ Io → Told → Option Told → DeskState S → DeskState S → Type 0
+-- one connection of a source that reports its bytes: none is to come, and nothing was done; or the next one was served
+abbrev pub IsNextServed : {S : Type 0} → Ghosts S → Result ℕ Io → Traffic → Option Traffic → DeskState S → DeskState S → Type 0
 IsNextServed g status before after old new =
-    ((has_failed status ≡ true) × (new ≡ old) × (after ≡ Some before))
+    ((has_failed status ≡ true) × (new ≡ old) × (after ≡ Some before) × (before.coming ≡ []))
     ⊎ ((bytes : List ℕ) × (rest : List (List ℕ)) × (it : Sent) × (before.coming ≡ bytes ∷ rest)
     × (after ≡ Some (record { coming = rest; sent = before.sent ++ it ∷ [] })) × (it.status ≡ status)
     × IsExchanged g bytes it old new)
 
 -- so many connections of it, and whether one failed: those that came were served in their order, and nothing else was
--- done; where none failed, each came
-pub record AreServed {S : Type 0} (g : Ghosts S) (count : ℕ) (failed : Bool) (before : Told) (after : Option Told)
+-- done; where none failed, each came, and fewer came only where no more are to come
+pub record AreServed {S : Type 0} (g : Ghosts S) (count : ℕ) (failed : Bool) (before : Traffic) (after : Option Traffic)
     (old new : DeskState S) : Type 0 where
   pub came : List (List ℕ)
   pub rest : List (List ℕ)
   pub sent : List Sent
   pub coming : before.coming ≡ came ++ rest
-  pub told : after ≡ Some (record { coming = rest; sent = before.sent ++ sent })
+  pub traffic : after ≡ Some (record { coming = rest; sent = before.sent ++ sent })
   pub exchanged : AreExchanged g old came sent new
   pub each : failed ≡ false → length sent ≡ count
+  pub all : (length sent ≡ count) ⊎ (rest ≡ [])

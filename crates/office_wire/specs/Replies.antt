@@ -16,8 +16,8 @@ use Rattle.office_json.specs.DueJson.{due_data}
 use Rattle.office_json.specs.OverdueJson.{overdue_data}
 use Rattle.office_json.specs.RecordJson.{record_data}
 use Rattle.office_json.specs.Replies.{answers_data, bad_act_data, fault_data, stopped_data}
-use Rattle.office_http.specs.Replies.{Response, failure_response}
-use Rattle.office_http.specs.declared.failure.Failure.TheVariants as failure
+use Rattle.office_http.specs.Replies.{Response, error_response}
+use Rattle.office_http.specs.declared.request_error.RequestError.TheVariants as error
 use Rattle.office_http.specs.declared.reply.Allow.TheVariants as allow
 use Rattle.office_http.specs.declared.reply.MediaType.TheVariants as media_type
 use Rattle.office_http.specs.declared.status.Status.{Status}
@@ -53,7 +53,7 @@ answer_response it = json_response (answered_status (is_refusal it)) (answer_dat
 
 -- a record with the entry that ended it; 404 where there is none
 abbrev pub record_response : Option RecordView → Option Entry → Response
-record_response None ending = failure_response failure.Record
+record_response None ending = error_response error.Record
 record_response (Some reported) ending = json_response status.Ok (record_data reported ending)
 
 -- what is due
@@ -66,10 +66,10 @@ overdue_response n rows = json_response status.Ok (overdue_data n rows)
 
 -- a content; 404 where there is none
 abbrev pub content_response : Option (List ℕ) → Response
-content_response None = failure_response failure.Content
+content_response None = error_response error.Content
 content_response (Some bytes) = record { status = status.Ok; media_type = media_type.Octets; allow = allow.Absent; body = bytes }
 
 -- a certificate; 404 where there is none
 abbrev pub certificate_response : Option (List ℕ) → Response
-certificate_response None = failure_response failure.Certificate
+certificate_response None = error_response error.Certificate
 certificate_response (Some text) = record { status = status.Ok; media_type = media_type.Plain; allow = allow.Absent; body = text }

@@ -9,35 +9,35 @@ use Rattle.office_rules.specs.State.{State}
 use Rattle.office_desk.specs.Desk.{DeskState}
 use Rattle.office_desk.specs.Leaving.{IsAt}
 use Rattle.office_http.specs.RequestPlans.{is_head_method}
-use Rattle.office_http.specs.declared.failure.Failure.{Failure}
+use Rattle.office_http.specs.declared.request_error.RequestError.{RequestError}
 use Rattle.office_wire.specs.declared.exchange.OutgoingReply.{OutgoingReply}
-use Rattle.office_http.specs.Replies.{Response, response, failure_response, response_text, status_number}
+use Rattle.office_http.specs.Replies.{Response, response, error_response, response_text, status_number}
 use Rattle.office_http.specs.Requests.{Request, IsRequest, nothing, headless, asks}
-use Rattle.office_http.specs.declared.failure.Failure.TheVariants as failure
+use Rattle.office_http.specs.declared.request_error.RequestError.TheVariants as error
 use Rattle.office_wire.specs.Answering.{Answers, AnyAnswer, IsUnavailable, RunsOutOfMemory, Serves, TakesMemory, gone_response}
 use Rattle.office_wire.specs.Calling.{AnsweredAt, CalledAt}
-use Rattle.office_http.specs.Receiving.{HasActs, Wanted, wanted}
+use Rattle.office_http.specs.Receiving.{HasActs, OfficeRequest, office_request}
 
 -- an answer is written, to HEAD its head alone, and the status is its
 abbrev pub Writes : Bool → Response → ℕ → Option (List ℕ) → Option (List ℕ) → Type 0
 Writes is_head r status written after =
     Appends written after (response_text is_head r) × (status ≡ status_number r.status)
 
--- what is wanted is served with this answer, or memory ran out for that and is reported
-abbrev pub IsServed : {S : Type 0} → Ghosts S → State → Wanted → Response → DeskState S → Type 0
-IsServed g t it r desk = Answers g t it r desk ⊎ ((r ≡ failure_response failure.Memory) × RunsOutOfMemory g t it desk)
+-- what is requested is served with this answer, or memory ran out for that and is reported
+abbrev pub IsServed : {S : Type 0} → Ghosts S → State → OfficeRequest → Response → DeskState S → Type 0
+IsServed g t it r desk = Answers g t it r desk ⊎ ((r ≡ error_response error.Memory) × RunsOutOfMemory g t it desk)
 
 -- memory ran out for the body of acts, and that is reported
 abbrev pub LacksRoomForBody : RequestHead → Response → Type 0
-LacksRoomForBody h r = HasActs h × (r ≡ failure_response failure.Memory)
+LacksRoomForBody h r = HasActs h × (r ≡ error_response error.Memory)
 
 -- which answer a request gets, whether to HEAD, and where the desk is then; a connection without a byte gets none
 abbrev pub IsReplied : {S : Type 0} → Ghosts S → State → Request → Bool → Response → DeskState S → Type 0
 IsReplied g t nothing is_head r desk = ⊥
-IsReplied g t headless is_head r desk = (is_head ≡ false) × (r ≡ failure_response failure.Head) × IsAt g t desk
+IsReplied g t headless is_head r desk = (is_head ≡ false) × (r ≡ error_response error.Head) × IsAt g t desk
 IsReplied g t (asks h rest) is_head r desk =
     (is_head ≡ is_head_method h.method)
-    × (IsServed g t (wanted h rest) r desk ⊎ LacksRoomForBody h r × IsAt g t desk)
+    × (IsServed g t (office_request h rest) r desk ⊎ LacksRoomForBody h r × IsAt g t desk)
 
 -- a connection without a byte: nothing is written, and nothing done
 abbrev pub IsSilent : {S : Type 0} → Ghosts S → State → List ℕ → ℕ → Option (List ℕ) → Option (List ℕ) → DeskState S
@@ -50,7 +50,7 @@ IsSilent g t bytes status written after desk =
 abbrev pub IsReply : {S : Type 0} → Ghosts S → State → List ℕ → Type 0 → Bool → Response → DeskState S → Type 0
 IsReply g t bytes unread is_head r desk =
     ((q : Request) × IsRequest q bytes × IsReplied g t q is_head r desk)
-    ⊎ (unread × (is_head ≡ false) × (r ≡ failure_response failure.Memory) × IsAt g t desk)
+    ⊎ (unread × (is_head ≡ false) × (r ≡ error_response error.Memory) × IsAt g t desk)
 
 -- it was written
 abbrev pub Replies : {S : Type 0} → Ghosts S → State → List ℕ → Type 0 → ℕ → Option (List ℕ) → Option (List ℕ)
@@ -70,20 +70,20 @@ Breaks g t bytes unread written after desk =
 -- ---- a poisoned desk
 
 -- which answer a request gets from it, whether to HEAD; of what takes memory, lack of it may be reported in its place
-abbrev pub IsGoneServed : Wanted → Response → Type 0
-IsGoneServed it r = (r ≡ gone_response it) ⊎ (r ≡ failure_response failure.Memory) × TakesMemory it
+abbrev pub IsGoneServed : OfficeRequest → Response → Type 0
+IsGoneServed it r = (r ≡ gone_response it) ⊎ (r ≡ error_response error.Memory) × TakesMemory it
 
 abbrev pub IsGoneReplied : Request → Bool → Response → Type 0
 IsGoneReplied nothing is_head r = ⊥
-IsGoneReplied headless is_head r = (is_head ≡ false) × (r ≡ failure_response failure.Head)
+IsGoneReplied headless is_head r = (is_head ≡ false) × (r ≡ error_response error.Head)
 IsGoneReplied (asks h rest) is_head r =
-    (is_head ≡ is_head_method h.method) × (IsGoneServed (wanted h rest) r ⊎ LacksRoomForBody h r)
+    (is_head ≡ is_head_method h.method) × (IsGoneServed (office_request h rest) r ⊎ LacksRoomForBody h r)
 
 -- its answer to all bytes of a connection
 abbrev pub IsGoneReply : List ℕ → Type 0 → Bool → Response → Type 0
 IsGoneReply bytes unread is_head r =
     ((q : Request) × IsRequest q bytes × IsGoneReplied q is_head r)
-    ⊎ (unread × (is_head ≡ false) × (r ≡ failure_response failure.Memory))
+    ⊎ (unread × (is_head ≡ false) × (r ≡ error_response error.Memory))
 
 -- it was written; a connection without a byte gets none
 abbrev pub GoneReplies : List ℕ → Type 0 → ℕ → Option (List ℕ) → Option (List ℕ) → Type 0
@@ -95,14 +95,14 @@ GoneReplies bytes unread status written after =
 
 -- the desk is where serving something may leave it
 abbrev pub LeavesServed : {S : Type 0} → Ghosts S → State → DeskState S → Type 0
-LeavesServed g t desk = (it : Wanted) × Serves AnyAnswer g t it desk
+LeavesServed g t desk = (it : OfficeRequest) × Serves AnyAnswer g t it desk
 
 -- ---- what the code sends
 
 -- an answer from fixed bytes is to be written
-abbrev pub IsFailed : Failure → Bool → Option OutgoingReply → Type 0
+abbrev pub IsFailed : RequestError → Bool → Option OutgoingReply → Type 0
 IsFailed why is_head sending =
-    IsSomeAnd sending (λ it. (response it.reply ≡ failure_response why) × (it.is_head ≡ is_head))
+    IsSomeAnd sending (λ it. (response it.reply ≡ error_response why) × (it.is_head ≡ is_head))
 
 -- what is to be written is the answer to all bytes of a connection
 abbrev pub IsToSend : {S : Type 0} → Ghosts S → State → List ℕ → Type 0 → Option OutgoingReply → DeskState S → Type 0
@@ -136,10 +136,10 @@ pub record Sends (sending : Option OutgoingReply) (status : Result ℕ Io) (writ
 
 -- ---- calls at a desk
 
--- what is wanted was done, and this is the answer
-abbrev pub HasReply : {S : Type 0} → Ghosts S → Wanted → Response → DeskState S → DeskState S → Type 0
-HasReply g wanted r old new =
-    AnsweredAt g old new (λ t. IsServed g t wanted r new) (IsGoneServed wanted r) (IsUnavailable r)
+-- what is requested was done, and this is the answer
+abbrev pub HasReply : {S : Type 0} → Ghosts S → OfficeRequest → Response → DeskState S → DeskState S → Type 0
+HasReply g request r old new =
+    AnsweredAt g old new (λ t. IsServed g t request r new) (IsGoneServed request r) (IsUnavailable r)
 
 -- from a state: where the reader reports its bytes, what is to be written is the answer to all of them; and the desk is
 -- where serving may leave it

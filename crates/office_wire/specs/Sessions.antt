@@ -16,11 +16,11 @@ use Rattle.office_desk.specs.Desk.{DeskState}
 use Rattle.office_desk.specs.Leaving.{IsAt}
 use Rattle.office_desk.specs.Resuming.{resumed_answer}
 use Rattle.office_json.specs.Lists.{NoActs, not_json, bad_act, acts_in}
-use Rattle.office_http.specs.Receiving.{Wanted, acts, cut, refused, requested, wanted}
-use Rattle.office_http.specs.Replies.{Response, check_response, failure_response, response_text}
+use Rattle.office_http.specs.Receiving.{OfficeRequest, acts, cut, refused, requested, office_request}
+use Rattle.office_http.specs.Replies.{Response, check_response, error_response, response_text}
 use Rattle.office_http.specs.RequestPlans.{is_head_method}
 use Rattle.office_http.specs.Requests.{Request, IsRequest, nothing, headless, asks}
-use Rattle.office_http.specs.declared.failure.Failure.TheVariants as failure
+use Rattle.office_http.specs.declared.request_error.RequestError.TheVariants as error
 use Rattle.office_http.specs.declared.path_request.PathRequest.TheVariants as path
 use Rattle.office_wire.specs.Replies.{acts_response, answer_response, bad_act_response, certificate_response, content_response, due_response, overdue_response, record_response}
 use Rattle.office_wire.specs.Sources.{Sent}
@@ -38,22 +38,22 @@ abbrev pub after_resumed : State → Option ℕ → State
 after_resumed s None = s
 after_resumed s (Some run) = whole s run
 
--- what is wanted leads there: acts and a resumption change an office, and nothing else does
-abbrev pub after_wanted : State → Wanted → State
-after_wanted s (refused check) = s
-after_wanted s cut = s
-after_wanted s (acts body) = after_asked s (acts_in body)
-after_wanted s (requested path.Resume) = after_resumed s (open_run s.office)
-after_wanted s (requested (path.Record r)) = s
-after_wanted s (requested (path.Content r)) = s
-after_wanted s (requested (path.Due day)) = s
-after_wanted s (requested (path.Overdue day n)) = s
-after_wanted s (requested (path.Certificate run)) = s
+-- what is requested leads there: acts and a resumption change an office, and nothing else does
+abbrev pub after_office_request : State → OfficeRequest → State
+after_office_request s (refused check) = s
+after_office_request s cut = s
+after_office_request s (acts body) = after_asked s (acts_in body)
+after_office_request s (requested path.Resume) = after_resumed s (open_run s.office)
+after_office_request s (requested (path.Record r)) = s
+after_office_request s (requested (path.Content r)) = s
+after_office_request s (requested (path.Due day)) = s
+after_office_request s (requested (path.Overdue day n)) = s
+after_office_request s (requested (path.Certificate run)) = s
 
 abbrev pub after_request : State → Request → State
 after_request s nothing = s
 after_request s headless = s
-after_request s (asks h rest) = after_wanted s (wanted h rest)
+after_request s (asks h rest) = after_office_request s (office_request h rest)
 
 -- requests lead there, one after another
 abbrev pub after_requests : State → List Request → State
@@ -63,36 +63,36 @@ after_requests s requests = fold after_request s requests
 
 abbrev pub acts_answer : State → Result (List Act) NoActs → Response
 acts_answer s (Ok done) = acts_response (answers s done)
-acts_answer s (Err not_json) = failure_response failure.Json
+acts_answer s (Err not_json) = error_response error.Json
 acts_answer s (Err (bad_act place why)) = bad_act_response place why
 
 abbrev pub record_answer : State → Option ℕ → Response
-record_answer s None = failure_response failure.Record
+record_answer s None = error_response error.Record
 record_answer s (Some r) = record_response (record_view s.office r) (ending_entry s.office r)
 
 abbrev pub content_answer : State → Option ℕ → Response
-content_answer s None = failure_response failure.Content
+content_answer s None = error_response error.Content
 content_answer s (Some r) = content_response (get s.contents r)
 
 abbrev pub certificate_answer : State → Option ℕ → Response
-certificate_answer s None = failure_response failure.Certificate
+certificate_answer s None = error_response error.Certificate
 certificate_answer s (Some run) = certificate_response (get s.office.certificates run)
 
 abbrev pub IsDueAnswer : State → Option ℤ → Response → Type 0
-IsDueAnswer s None r = r ≡ failure_response failure.Day
+IsDueAnswer s None r = r ≡ error_response error.Day
 IsDueAnswer s (Some day) r = (rows : List DueRowView) × AreDueRows s.office day rows × (r ≡ due_response rows)
 
 -- of a bad day and a bad count the day is reported
 abbrev pub IsOverdueAnswer : State → Option ℤ → Option ℕ → Response → Type 0
-IsOverdueAnswer s None count r = r ≡ failure_response failure.Day
-IsOverdueAnswer s (Some day) None r = r ≡ failure_response failure.Count
+IsOverdueAnswer s None count r = r ≡ error_response error.Day
+IsOverdueAnswer s (Some day) None r = r ≡ error_response error.Count
 IsOverdueAnswer s (Some day) (Some n) r =
     (rows : List DueRowView) × AreOverdueRows s.office day n rows × (r ≡ overdue_response n rows)
 
--- what is wanted of an office at a state has this answer, if no fault and no lack of memory is reported
-abbrev pub IsAnswer : State → Wanted → Response → Type 0
+-- what is requested of an office at a state has this answer, if no fault and no lack of memory is reported
+abbrev pub IsAnswer : State → OfficeRequest → Response → Type 0
 IsAnswer s (refused check) r = r ≡ check_response check
-IsAnswer s cut r = r ≡ failure_response failure.Body
+IsAnswer s cut r = r ≡ error_response error.Body
 IsAnswer s (acts body) r = r ≡ acts_answer s (acts_in body)
 IsAnswer s (requested path.Resume) r = r ≡ answer_response (resumed_answer (open_run s.office))
 IsAnswer s (requested (path.Record number)) r = r ≡ record_answer s number
@@ -104,9 +104,9 @@ IsAnswer s (requested (path.Certificate run)) r = r ≡ certificate_answer s run
 -- a request of an office at a state is answered by these bytes; a connection without a byte gets none
 abbrev pub IsAnsweredBy : State → Request → List ℕ → Type 0
 IsAnsweredBy s nothing bytes = bytes ≡ []
-IsAnsweredBy s headless bytes = bytes ≡ response_text false (failure_response failure.Head)
+IsAnsweredBy s headless bytes = bytes ≡ response_text false (error_response error.Head)
 IsAnsweredBy s (asks h rest) bytes =
-    (r : Response) × IsAnswer s (wanted h rest) r × (bytes ≡ response_text (is_head_method h.method) r)
+    (r : Response) × IsAnswer s (office_request h rest) r × (bytes ≡ response_text (is_head_method h.method) r)
 
 -- ---- a session
 

@@ -3,7 +3,7 @@ ghost use Rattle.std.specs.FinMap.{get};
 ghost use Rattle.std.specs.Prelude.{◌≡◌, ◌⊎◌, IfErr, IfOk, IsTrue, false, option_map, string_bytes};
 ghost use Rattle.office_rules.specs.Readings.{ending_entry, record_view};
 ghost use Rattle.office_wire.specs.Answering.{ArePerformedBy, IsAnswered, IsPerformed, IsRead, IsReportedOf};
-ghost use Rattle.office_http.specs.Receiving.{acts, operation_wanted, requested};
+ghost use Rattle.office_http.specs.Receiving.{acts, request_of_kind, requested};
 
 use crate::replies::{
     acts_reply, answer_reply, bad_act_reply, certificate_reply, content_reply, due_reply,
@@ -12,7 +12,7 @@ use crate::replies::{
 use office_base::Memory;
 use office_days::{ConfirmDays, Day};
 use office_desk::Desk;
-use office_http::{Failure, Operation, PathRequest, Reply, check_reply, failure_reply};
+use office_http::{PathRequest, Reply, RequestError, RequestKind, check_reply, error_reply};
 use office_json::{ListFault, read_acts};
 use office_records::RecordNo;
 use office_rules::{Act, Entry, RecordView};
@@ -37,7 +37,7 @@ fn perform_body<S: Alter>(alloc: Global, desk: &mut Desk<S>, body: &[u8]) -> Res
 {
     match read_acts(alloc, body) {
         Ok(acts) => perform(alloc, desk, acts.as_slice()),
-        Err(ListFault::NotJson) => Ok(failure_reply(Failure::Json)),
+        Err(ListFault::NotJson) => Ok(error_reply(RequestError::Json)),
         Err(ListFault::BadAct(place, refusal)) => bad_act_reply(alloc, place, refusal),
         Err(ListFault::Memory) => Err(Memory),
     }
@@ -84,10 +84,10 @@ fn report_record<S: Alter>(
     ensures { IsRead S.Store (requested (PathRequest.Record number)) result desk.now }
 {
     let Some(record_no) = number else {
-        return Ok(failure_reply(Failure::Record));
+        return Ok(error_reply(RequestError::Record));
     };
     match read_record(desk, record_no) {
-        Ok(None) => Ok(failure_reply(Failure::Record)),
+        Ok(None) => Ok(error_reply(RequestError::Record)),
         Ok(Some(reported)) => record_reply(alloc, &reported.view, reported.ending.as_ref()),
         Err(fault) => fault_reply(alloc, fault),
     }
@@ -102,7 +102,7 @@ fn report_content<S: Alter>(
     ensures { IsAnswered S.Store (requested (PathRequest.Content number)) result desk.old desk.new }
 {
     let Some(record_no) = number else {
-        return Ok(failure_reply(Failure::Content));
+        return Ok(error_reply(RequestError::Content));
     };
     match desk.content(record_no) {
         Ok(content) => Ok(content_reply(content)),
@@ -115,7 +115,7 @@ fn report_due<S: Alter>(alloc: Global, desk: &Desk<S>, day: Option<Day>) -> Resu
     ensures { IsRead S.Store (requested (PathRequest.Due day)) result desk.now }
 {
     let Some(day) = day else {
-        return Ok(failure_reply(Failure::Day));
+        return Ok(error_reply(RequestError::Day));
     };
     match desk.due_rows(day) {
         Ok(rows) => due_reply(alloc, rows),
@@ -134,10 +134,10 @@ fn report_overdue<S: Alter>(
     ensures { IsRead S.Store (requested (PathRequest.Overdue day days)) result desk.now }
 {
     let Some(day) = day else {
-        return Ok(failure_reply(Failure::Day));
+        return Ok(error_reply(RequestError::Day));
     };
     let Some(days) = days else {
-        return Ok(failure_reply(Failure::Count));
+        return Ok(error_reply(RequestError::Count));
     };
     match desk.overdue_rows(day, days) {
         Ok(rows) => overdue_reply(alloc, rows, days),
@@ -154,7 +154,7 @@ fn report_certificate<S: Alter>(
     ensures { IsRead S.Store (requested (PathRequest.Certificate number)) result desk.now }
 {
     let Some(run) = number else {
-        return Ok(failure_reply(Failure::Certificate));
+        return Ok(error_reply(RequestError::Certificate));
     };
     match desk.certificate(run) {
         Ok(text) => Ok(certificate_reply(text)),
@@ -180,21 +180,21 @@ fn answer_path<S: Alter>(
     }
 }
 
-/// Does at the desk what an operation asks for, and gives the answer. `Memory` comes where memory
+/// Does at the desk what a request asks for, and gives the answer. `Memory` comes where memory
 /// was refused to read the acts, and then none was done; or for the answer, and what was done is
 /// kept then. A failed check, a cut body and a number or day that names nothing are answered without
 /// memory.
 pub fn answer<S: Alter>(
     alloc: Global,
     desk: &mut Desk<S>,
-    operation: &Operation,
+    kind: &RequestKind,
 ) -> Result<Reply, Memory>
-    ensures { IsAnswered S.Store (operation_wanted operation.now) result desk.old desk.new }
+    ensures { IsAnswered S.Store (request_of_kind kind.now) result desk.old desk.new }
 {
-    match operation {
-        Operation::Refused(check) => Ok(check_reply(*check)),
-        Operation::Cut => Ok(failure_reply(Failure::Body)),
-        Operation::Acts(body) => perform_body(alloc, desk, body.as_bytes()),
-        Operation::Serve(request) => answer_path(alloc, desk, *request),
+    match kind {
+        RequestKind::Refused(check) => Ok(check_reply(*check)),
+        RequestKind::Cut => Ok(error_reply(RequestError::Body)),
+        RequestKind::Acts(body) => perform_body(alloc, desk, body.as_bytes()),
+        RequestKind::Serve(request) => answer_path(alloc, desk, *request),
     }
 }

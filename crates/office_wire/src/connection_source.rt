@@ -1,6 +1,6 @@
 //! Where connections come from.
 ghost use Rattle.std.specs.Prelude.{◌≡◌, IfOk, None, Ok, OnOk, Option};
-ghost use Rattle.office_wire.specs.Sources.{Accepts, Closes, Told};
+ghost use Rattle.office_wire.specs.Sources.{Accepts, Closes, Traffic};
 
 use office_base::Io;
 use std::io::{Read, Write};
@@ -15,15 +15,16 @@ pub trait ConnectionSource {
     type Writer: Write + Drop;
 
     /// What is known of its connections, those that are to come and those that came.
-    ghost told: { Self → Option Told } = { λ _. None };
+    ghost traffic: { Self → Option Traffic } = { λ _. None };
 
     /// A connection came that is not closed yet.
     ghost is_open: { Self → Type 0 } = { λ _. Unit {0} };
 
-    /// Waits for the next connection. `Io` comes where none came.
+    /// Waits for the next connection. `Io` comes if none came. A source that reports all bytes
+    /// returns it only if no connection is to come.
     fn accept(&mut self) -> Result<(Self::Reader, Self::Writer), Io>
         ensures reports { Accepts Self.Reader.remaining Self.Writer.contents result
-            (told self.old) (told self.new) }
+            (traffic self.old) (traffic self.new) }
         ensures open { OnOk result (is_open self.new) };
 
     /// Closes the connection that came, by how its request was served. `Io` comes where that
@@ -35,7 +36,7 @@ pub trait ConnectionSource {
         served: Result<u16, Io>,
     ) -> Result<u16, Io>
         requires { is_open self.old }
-        ensures reports { Closes (Self.Writer.contents writer) served result (told self.old)
-            (told self.new) }
+        ensures reports { Closes (Self.Writer.contents writer) served result (traffic self.old)
+            (traffic self.new) }
         ensures status { IfOk result (λ code. served ≡ Ok code) };
 }

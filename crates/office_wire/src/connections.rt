@@ -42,8 +42,8 @@ fn serve_next<C: ConnectionSource, S: Alter>(
     desk: &mut Desk<S>,
 ) -> Result<u16, Io>
     ensures turn { Turn S.Store result desk.old desk.new }
-    ensures next { IfSome (C.told source.old)
-        (λ it. IsNextServed S.Store result it (C.told source.new) desk.old desk.new) }
+    ensures next { IfSome (C.traffic source.old)
+        (λ it. IsNextServed S.Store result it (C.traffic source.new) desk.old desk.new) }
 {
     let (mut reader, mut writer) = source.accept()?;
     let served = serve_with(
@@ -85,8 +85,8 @@ pub fn serve_session<C: ConnectionSource, S: Alter>(
     desk: &mut Desk<S>,
 ) -> Service
     ensures all { ServesAll S.Store count result desk.old desk.new }
-    ensures served { IfSome (C.told source.old) (λ it. AreServed S.Store result.connections
-        result.has_failed it (C.told source.new) desk.old desk.new) }
+    ensures served { IfSome (C.traffic source.old) (λ it. AreServed S.Store result.connections
+        result.has_failed it (C.traffic source.new) desk.old desk.new) }
 {
     let mut has_failed = false;
     for before in 0..count {

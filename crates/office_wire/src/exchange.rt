@@ -2,7 +2,7 @@
 //! one has no writer and the other no desk.
 ghost use Rattle.std.specs.Prelude.{◌≡◌, IfOk, IsTrue, OnErr, false};
 ghost use Rattle.office_http.specs.Replies.{response};
-ghost use Rattle.office_http.specs.Receiving.{operation_wanted};
+ghost use Rattle.office_http.specs.Receiving.{request_of_kind};
 ghost use Rattle.office_wire.specs.Calling.{CalledAt};
 ghost use Rattle.office_wire.specs.Serving.{AnswersNext, HasReply, InHalves, IsFailed, IsGoneAnswered, IsOneServed, Sends};
 
@@ -10,21 +10,21 @@ use crate::answers::answer;
 use office_base::Io;
 use office_desk::Desk;
 use office_http::{
-    Failure, Operation, ParsedRequest, ReceiveStop, Received, Reply, Routes, failure_reply,
+    ParsedRequest, ReceiveStop, Received, Reply, RequestError, RequestKind, Routes, error_reply,
     receive, write_reply,
 };
 use sqlite::Alter;
 use std::alloc::Global;
 use std::io::{Read, Write};
 
-/// Does what an operation asks for, and gives an answer in any case: where memory is refused for it,
+/// Does what a request asks for, and gives an answer in any case: where memory is refused for it,
 /// that is reported from fixed bytes.
-fn serve_operation<S: Alter>(alloc: Global, desk: &mut Desk<S>, operation: &Operation) -> Reply
-    ensures { HasReply S.Store (operation_wanted operation.now) (response result) desk.old desk.new }
+fn answer_always<S: Alter>(alloc: Global, desk: &mut Desk<S>, kind: &RequestKind) -> Reply
+    ensures { HasReply S.Store (request_of_kind kind.now) (response result) desk.old desk.new }
 {
-    match answer(alloc, desk, operation) {
+    match answer(alloc, desk, kind) {
         Ok(reply) => reply,
-        Err(_) => failure_reply(Failure::Memory),
+        Err(_) => error_reply(RequestError::Memory),
     }
 }
 
@@ -38,10 +38,10 @@ pub struct OutgoingReply {
 }
 
 /// An answer from fixed bytes.
-fn failure_to_send(failure: Failure, is_head: bool) -> Option<OutgoingReply>
-    ensures { IsFailed failure is_head result }
+fn error_to_send(error: RequestError, is_head: bool) -> Option<OutgoingReply>
+    ensures { IsFailed error is_head result }
 {
-    let reply = failure_reply(failure);
+    let reply = error_reply(error);
     Some(OutgoingReply { reply, is_head })
 }
 
@@ -52,10 +52,10 @@ fn answer_request<S: Alter>(
     request: ParsedRequest,
 ) -> OutgoingReply
     ensures is_head { result.is_head ≡ request.is_head }
-    ensures has { HasReply S.Store (operation_wanted request.operation) (response result.reply) desk.old
+    ensures has { HasReply S.Store (request_of_kind request.kind) (response result.reply) desk.old
         desk.new }
 {
-    let reply = serve_operation(alloc, desk, &request.operation);
+    let reply = answer_always(alloc, desk, &request.kind);
     OutgoingReply {
         reply,
         is_head: request.is_head,
@@ -76,10 +76,10 @@ pub fn answer_next<R: Read, S: Alter>(
 {
     match receive(alloc, routes, reader) {
         Ok(Received::Nothing) => Ok(None),
-        Ok(Received::Headless) => Ok(failure_to_send(Failure::Head, false)),
+        Ok(Received::Headless) => Ok(error_to_send(RequestError::Head, false)),
         Ok(Received::Request(request)) => Ok(Some(answer_request(alloc, desk, request))),
-        Err(ReceiveStop::Memory) => Ok(failure_to_send(Failure::Memory, false)),
-        Err(ReceiveStop::MemoryForBody) => Ok(failure_to_send(Failure::Memory, false)),
+        Err(ReceiveStop::Memory) => Ok(error_to_send(RequestError::Memory, false)),
+        Err(ReceiveStop::MemoryForBody) => Ok(error_to_send(RequestError::Memory, false)),
         Err(ReceiveStop::Io) => Err(Io),
     }
 }
@@ -164,6 +164,6 @@ pub fn serve_one<R: Read, W: Write, S: Alter>(
 {
     match Routes::new(alloc) {
         Ok(routes) => serve_with(alloc, &routes, desk, reader, writer),
-        Err(_) => send(failure_to_send(Failure::Memory, false), writer),
+        Err(_) => send(error_to_send(RequestError::Memory, false), writer),
     }
 }

@@ -29,7 +29,7 @@ pub use connections::{Service, Serving, serve_all, serve_each, serve_session};
 pub use exchange::{OutgoingReply, answer_next, send, serve_one, serve_with};
 pub use office_base::Io;
 pub use office_http::{
-    ActsBody, LONGEST, Operation, ParsedRequest, ReceiveStop, Received, Routes, receive,
+    ActsBody, LONGEST, ParsedRequest, ReceiveStop, Received, RequestKind, Routes, receive,
 };
 pub use office_json::{ReadFault, answer_value, read_act};
 pub use record_import::{ImportStop, import_records};

@@ -11,7 +11,7 @@ ghost use Rattle.office_wire.specs.Replies.{acts_response, answer_response, answ
 use office_base::{Memory, Refusal};
 use office_days::ConfirmDays;
 use office_desk::DueRows;
-use office_http::{Allow, Body, Failure, MediaType, Reply, Status, failure_reply};
+use office_http::{Allow, Body, MediaType, Reply, RequestError, Status, error_reply};
 use office_json::{
     answer_value, answers_value, bad_act_value, due_row_value, due_value, fault_value,
     overdue_row_value, overdue_value, record_value, stopped_value, text_of,
@@ -159,7 +159,7 @@ pub(crate) fn content_reply(content: Option<Vec<u8>>) -> Reply
     ensures { response result ≡ content_response (option_map (λ it. it.items) content) }
 {
     match content {
-        None => failure_reply(Failure::Content),
+        None => error_reply(RequestError::Content),
         Some(bytes) => Reply {
             status: Status::Ok,
             media_type: MediaType::Octets,
@@ -175,7 +175,7 @@ pub(crate) fn certificate_reply(certificate: Option<String>) -> Reply
         ≡ certificate_response (option_map (λ it. string_bytes it) certificate) }
 {
     match certificate {
-        None => failure_reply(Failure::Certificate),
+        None => error_reply(RequestError::Certificate),
         Some(text) => Reply {
             status: Status::Ok,
             media_type: MediaType::Plain,

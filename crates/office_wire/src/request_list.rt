@@ -1,7 +1,8 @@
 //! Requests in memory, each as all bytes of a connection, and what goes out to each.
+ghost use Rattle.std.specs.Prelude.{◌≤◌, length, vec_capacity, vec_len};
 
 use crate::connection_source::ConnectionSource;
-use office_base::Io;
+use office_base::{Io, Memory};
 use std::alloc::Global;
 
 /// What went out on a connection.
@@ -21,49 +22,52 @@ pub struct RequestList<'a> {
     requests: &'a [&'a [u8]],
     next: usize,
     answers: Vec<SentAnswer>,
+    ghost within: { next ≤ length requests.now },
+    ghost closed: { vec_len answers ≤ next },
+    ghost room: { length requests.now ≤ vec_capacity answers },
 }
 
 impl<'a> RequestList<'a> {
-    ghost use Rattle.std.specs.Prelude.{◌≡◌, [], map};
-    ghost use Rattle.office_wire.specs.RequestLists.{sent_of, told_of};
+    ghost use Rattle.std.specs.Prelude.{◌≡◌, [], IfOk, map};
+    ghost use Rattle.office_wire.specs.RequestLists.{sent_of, traffic_of};
 
-    /// These requests, none of which was served.
-    pub fn new(alloc: Global, requests: &'a [&'a [u8]]) -> RequestList<'a>
-        ensures { told_of result ≡ record { coming = map (λ bytes. bytes.now) requests.now; sent = [] } }
+    /// These requests, none of which was served, with room for what goes out to each; `Memory` if
+    /// there is none for it.
+    pub fn new(alloc: Global, requests: &'a [&'a [u8]]) -> Result<RequestList<'a>, Memory>
+        ensures { IfOk result (λ list. traffic_of list
+            ≡ record { coming = map (λ bytes. bytes.now) requests.now; sent = [] }) }
     {
-        RequestList {
+        let answers = Vec::with_capacity(alloc, requests.len())?;
+        Ok(RequestList {
             alloc,
             requests,
             next: 0,
-            answers: Vec::new(alloc),
-        }
+            answers,
+        })
     }
 
     /// What went out to each request that was served, in their order.
     pub fn into_answers(self) -> Vec<SentAnswer>
-        ensures { sent_of result.items ≡ (told_of self.entry).sent }
+        ensures { sent_of result.items ≡ (traffic_of self.entry).sent }
     {
         self.answers
     }
 }
 
 impl<'a> ConnectionSource for RequestList<'a> {
-    ghost use Rattle.std.specs.Prelude.{◌<◌, Some, vec_capacity, vec_len};
-    ghost use Rattle.office_wire.specs.RequestLists.{told_of};
+    ghost use Rattle.std.specs.Prelude.{◌<◌, Some, vec_len};
+    ghost use Rattle.office_wire.specs.RequestLists.{traffic_of};
 
     type Reader = &'a [u8];
 
     type Writer = Vec<u8>;
 
-    ghost told = { λ it. Some (told_of it) };
+    ghost traffic = { λ it. Some (traffic_of it) };
 
-    ghost is_open = { λ it. vec_len it.answers < vec_capacity it.answers };
+    ghost is_open = { λ it. vec_len it.answers < it.next };
 
-    /// The next request, with room for what goes out; `Io` where none is left, or no memory.
+    /// The next request; `Io` if none is left.
     fn accept(&mut self) -> Result<(&'a [u8], Vec<u8>), Io> {
-        if self.answers.reserve(1).is_err() {
-            return Err(Io);
-        }
         let Some(request) = self.requests.get(self.next) else {
             return Err(Io);
         };

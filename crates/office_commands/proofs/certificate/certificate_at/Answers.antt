@@ -3,7 +3,7 @@ use Rattle.std.specs.FinMap.{get}
 use Rattle.std.specs.Option.{option_map}
 use Rattle.std.specs.String.{string_bytes}
 use Rattle.office_rules.specs.State.{Office}
-use Rattle.office_commands.specs.declared.ending.Ending.TheVariants as how
+use Rattle.office_commands.specs.declared.exit.Exit.TheVariants as how
 use Rattle.office_commands.proofs.Certificates.{memory_alone}
 use Rattle.office_commands.proofs.certificate.certificate_at.Goals as goal
 

@@ -14,11 +14,11 @@ returns-in-Ok-clause-ends g c =
     let it = c.in-Ok.ensures.ok in
     let desk = c.in-Ok.desk in
     once_closed _ _ c.close.ensures.same
-    (λ h. CertificateEnds c.args.run (state g.S.Store c.args.conn) (state g.S.Store h) (g.W.Write.contents c.args.out.now) (g.W.Write.contents c.certificate_at-ending.new.out) c.certificate_at-ending.result)
+    (λ h. CertificateEnds c.args.run (state g.S.Store c.args.conn) (state g.S.Store h) (g.W.Write.contents c.args.out.now) (g.W.Write.contents c.certificate_at-exit.new.out) c.certificate_at-exit.result)
     (inr (
       opened g.S.Store c.args.conn desk it,
       certifies_of (λ (P : State → Type 0). (s : State) → s.office ≡ desk.office → P s) (FromOpened (state g.S.Store c.args.conn) (state g.S.Store desk.held)) (of_office g.S.Store c.args.conn desk it)
-          c.args.run _ _ _ c.certificate_at-ending.ensures,
+          c.args.run _ _ _ c.certificate_at-exit.ensures,
     ))
 
 pub returns-in-Ok-clause-clean : goal.returns-in-Ok-clause-clean

@@ -7,8 +7,8 @@ use Rattle.office_commands.proofs.office_files.open_and_apply.Goals as goal
 pub returns-in-Ok-clause-applies : goal.returns-in-Ok-clause-applies
 returns-in-Ok-clause-applies g c =
     let was = c.in-Ok.conn in
-    let last = c.apply_text-ending.result.1 in
-    let applied = c.apply_text-ending.ensures in
+    let last = c.apply_text-exit.result.1 in
+    let applied = c.apply_text-exit.ensures in
     let law = c.law_of_the_last_commit.ensures in
     let opened = opened_from (image_at g.S.Start) was last applied.clean c.in-Ok.ensures.opened c.in-Ok.ensures.found law.only law.stays in
     inr (last, record { was = was; opened = opened; ends = applied.ends; stays = c.law_of_the_last_commit-in-Ok.ensures.stays; shield = λ clean. c.close.ensures.shield (applied.shield (c.in-Ok.ensures.guarded clean)) }, c.close.ensures.left)
@@ -16,8 +16,8 @@ returns-in-Ok-clause-applies g c =
 pub returns-in-Ok-clause-runs : goal.returns-in-Ok-clause-runs
 returns-in-Ok-clause-runs g c = λ acts.
     let was = c.in-Ok.conn in
-    let last = c.apply_text-ending.result.1 in
-    let applied = c.apply_text-ending.ensures in
+    let last = c.apply_text-exit.result.1 in
+    let applied = c.apply_text-exit.ensures in
     let law = c.law_of_the_last_commit.ensures in
     let opened = opened_from (image_at g.S.Start) was last applied.clean c.in-Ok.ensures.opened c.in-Ok.ensures.found law.only law.stays in
     inr (last, record { was = was; opened = opened; ends = inr applied.ends; stays = c.law_of_the_last_commit-in-Ok.ensures.stays; shield = λ clean. c.close.ensures.shield (applied.shield (c.in-Ok.ensures.guarded clean)) }, c.close.ensures.left)

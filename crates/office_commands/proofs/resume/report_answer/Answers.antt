@@ -6,8 +6,8 @@ use Rattle.office_rules.specs.declared.answer.Answer.TheVariants as answer
 use Rattle.office_desk.specs.Resuming.{resumed_answer}
 use Rattle.office_desk.specs.Resumptions.{run_closed, run_outcome}
 use Rattle.office_commands.specs.Resuming.{IsRunReported}
-use Rattle.office_commands.specs.declared.ending.Ending.{Ending}
-use Rattle.office_commands.specs.declared.ending.Ending.TheVariants as how
+use Rattle.office_commands.specs.declared.exit.Exit.{Exit}
+use Rattle.office_commands.specs.declared.exit.Exit.TheVariants as how
 use Rattle.office_commands.proofs.resume.report_answer.Goals as goal
 
 -- a resumption answers that a run was closed, or a refusal
@@ -29,7 +29,7 @@ pub unreachable-requires : goal.unreachable-requires
 unreachable-requires g c = no_other c.args.answer c.requires.0 c.requires.1 c.in_default.not-RunClosed c.in_default.not-Refused
 
 -- what is reported of the run that was closed is reported of the run that was open
-closed_reported : (a : Answer) (o : Option ℕ) (run : ℕ) (written after : Option (List ℕ)) (e : Ending) → o ≡ Some run → IsRunReported (run_closed run) written after e → IsRunReported (run_outcome (Ok a) o) written after e
+closed_reported : (a : Answer) (o : Option ℕ) (run : ℕ) (written after : Option (List ℕ)) (e : Exit) → o ≡ Some run → IsRunReported (run_closed run) written after e → IsRunReported (run_outcome (Ok a) o) written after e
 closed_reported a o run written after e is reported = subst (λ (x : Option ℕ). IsRunReported (run_outcome (Ok a) x) written after e) (sym is) reported
 
 -- where no run was open the refusal is reported

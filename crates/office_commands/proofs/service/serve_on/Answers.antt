@@ -7,14 +7,14 @@ use Rattle.office_commands.proofs.service.serve_on.Goals as goal
 
 pub returns-in-Ok-clause-ends : goal.returns-in-Ok-clause-ends
 returns-in-Ok-clause-ends g c =
-    let desk = c.serve_at-ending.new.desk in
+    let desk = c.serve_at-exit.new.desk in
     once_closed _ _ c.close.ensures.same
-    (λ h. ServiceEnds g.S.Store c.args.port c.args.count c.args.conn h (g.W.Write.contents c.args.out.now) (g.W.Write.contents c.serve_at-ending.new.out) c.serve_at-ending.result)
-    (inr (c.in-Ok.desk, desk, desk_of g.S.Store c.args.conn c.in-Ok.desk c.in-Ok.ensures.ok, c.serve_at-ending.ensures, refl))
+    (λ h. ServiceEnds g.S.Store c.args.port c.args.count c.args.conn h (g.W.Write.contents c.args.out.now) (g.W.Write.contents c.serve_at-exit.new.out) c.serve_at-exit.result)
+    (inr (c.in-Ok.desk, desk, desk_of g.S.Store c.args.conn c.in-Ok.desk c.in-Ok.ensures.ok, c.serve_at-exit.ensures, refl))
 
 pub returns-in-Ok-clause-clean : goal.returns-in-Ok-clause-clean
 returns-in-Ok-clause-clean g c =
-    clean_closed g.S.Store c.args.conn c.serve_at-ending.new.desk.held c.close.result c.close.ensures.same (λ clean. c.in-Ok.ensures.ok.clean (clean_served g.S.Store c.args.port c.args.count c.in-Ok.desk c.serve_at-ending.new.desk _ _ _ c.serve_at-ending.ensures clean))
+    clean_closed g.S.Store c.args.conn c.serve_at-exit.new.desk.held c.close.result c.close.ensures.same (λ clean. c.in-Ok.ensures.ok.clean (clean_served g.S.Store c.args.port c.args.count c.in-Ok.desk c.serve_at-exit.new.desk _ _ _ c.serve_at-exit.ensures clean))
 
 pub returns-in-Err-clause-ends : goal.returns-in-Err-clause-ends
 returns-in-Err-clause-ends g c = inl (c.in-Err.fault, refl, unopened g.S.Store c.args.conn c.in-Err.fault c.in-Err.conn c.in-Err.ensures.err, refl)
@@ -24,8 +24,8 @@ returns-in-Err-clause-clean g c = c.in-Err.ensures.err.clean
 
 pub returns-in-Ok-clause-shield : goal.returns-in-Ok-clause-shield
 returns-in-Ok-clause-shield g c =
-    shield_closed g.S.Store c.args.conn c.serve_at-ending.new.desk.held c.close.result c.close.ensures.same
-    (λ shielded. shield_served g.S.Store c.args.port c.args.count c.in-Ok.desk c.serve_at-ending.new.desk _ _ _ c.serve_at-ending.ensures (c.in-Ok.ensures.ok.shield shielded))
+    shield_closed g.S.Store c.args.conn c.serve_at-exit.new.desk.held c.close.result c.close.ensures.same
+    (λ shielded. shield_served g.S.Store c.args.port c.args.count c.in-Ok.desk c.serve_at-exit.new.desk _ _ _ c.serve_at-exit.ensures (c.in-Ok.ensures.ok.shield shielded))
 
 pub returns-in-Err-clause-shield : goal.returns-in-Err-clause-shield
 returns-in-Err-clause-shield g c = c.in-Err.ensures.err.shield

@@ -5,13 +5,13 @@ use Rattle.office_evidence.proofs.Kept.{all_lines, many_lines}
 use Rattle.office_evidence.proofs.Splitting.{text_lines}
 use Rattle.office_evidence.proofs.reading.parse.Goals as goal
 
-pub returns-then-len-lt3 : goal.returns-then-len-lt3
-returns-then-len-lt3 c d is =
+pub returns-then-len-lt3-clause-every : goal.returns-then-len-lt3-clause-every
+returns-then-len-lt3-clause-every c d is =
     let lines = c.in_ok-lines.ensures ∙ ap (slice_split _) is.same ∙ text_lines d is.formed in
     let many : length c.in_ok-lines.lines.items ≡ length (all_lines d) = sym (length-map c.in_ok-lines.lines.items (λ (line : Bor (List ℕ)). line.now)) ∙ ap length lines in
     absurd (omega (arith, many, many_lines d, c.if-len-lt3.true, c.len.ensures))
 
-pub returns : goal.returns
-returns c d is =
+pub returns-clause-every : goal.returns-clause-every
+returns-clause-every c d is =
     let lines = c.in_ok-lines.ensures ∙ ap (slice_split _) is.same ∙ text_lines d is.formed in
-    c.certificate_of.ensures d is.formed (ap (map (λ (line : Bor (List ℕ)). line.now)) c.deref.ensures.value ∙ lines)
+    c.certificate_of.ensures.every d is.formed (ap (map (λ (line : Bor (List ℕ)). line.now)) c.deref.ensures.value ∙ lines)

@@ -2,7 +2,8 @@ use Rattle.std.proofs.Common.{◌∙◌, ap, ◌++◌, codes}
 use Rattle.std.specs.Fmt.{decimal}
 use Rattle.office_rules.specs.Outcomes.{is_ending, is_sending, is_skipping}
 use Rattle.office_evidence.specs.Parsed.{count_in}
-use Rattle.office_evidence.proofs.Joining.{counted_is, three_lines, reported_as}
+use Rattle.office_proof.proofs.Texts.{reported_as, three_lines}
+use Rattle.office_evidence.proofs.Joining.{counted_is}
 use Rattle.office_evidence.proofs.written.push_counts.Goals as goal
 
 pub returns : goal.returns

@@ -13,5 +13,5 @@ returns-clause-ok c =
     let rows_is = one_row c.args.rows.now row c.in-len1.len_at_least c.in-len1.len_below c.row-item.is in
     let is_one = is_number _ c.number.result 1 (sym c.ne.ensures ∙ c.if-ne.false) in
     let first : Has row 0 (Int (pos 1)) = IfOk-at_ok (λ n. Has row 0 (Int (pos n))) is_one c.number.ensures.ok in
-    let third : Has row 2 (Int c.in_ok-map_err-2.field-0) = search rules in
-    rows_is ∙ ap (λ r. r ∷ []) (whole_office row reported.1 reported.0 (version_of c.in_ok-edition.edition) c.in_ok-map_err-2.field-0 reported.2 (search rules) first third)
+    let third : Has row 2 (Int c.in_ok-day.field-0) = search rules in
+    rows_is ∙ ap (λ r. r ∷ []) (whole_office row reported.1 reported.0 (version_of c.in_ok-edition.edition) c.in_ok-day.field-0 reported.2 (search rules) first third)

@@ -27,4 +27,4 @@ returns-in-Err-clause-takes g c ed is_table =
     let last = c.query.follows.lender-at-none in
     let t = c.args.table in
     let survives : Survives (state g.S.Store first) (state g.S.Store last) (CommitsShowing (text_of t) [] (state g.S.Store first)) = rw c.text.ensures at ((rw c.in-Err.is at c.query.follows.holds-at-none).survives) in
-    not_begun g.S.Store g.T.Stored.shown g.T.Stored.IsRow g.T.Stored.handed ed t is_table first (g.I.Intake.content c.args.intake.now) (g.I.Intake.content c.args.intake.now) g.I.Intake.examines last c.of_database.result c.of_database.ensures survives
+    not_begun g.S.Store g.T.Stored.shown g.T.Stored.IsRow g.T.Stored.handed ed t is_table first (g.I.Intake.content c.args.intake.now) (g.I.Intake.content c.args.intake.now) g.I.Intake.examines last c.from.result c.from.ensures survives

@@ -56,3 +56,32 @@ returns-clause-moved g c =
           let rest = it.rest in
           search rules;
     }
+
+pub returns-in_err-migrate_all-clause-moved : goal.returns-in_err-migrate_all-clause-moved
+returns-in_err-migrate_all-clause-moved g c =
+    let old = state g.S.Store c.args.self.now in
+    let new = state g.S.Store c.migrate_all.new.conn in
+    record {
+      faults = search rules;
+      clean = search rules;
+      shield = search rules;
+      moved = λ s clean holds.
+          let t = rows_of s in
+          let r = c.migrate_all.result in
+          let moves : Migrates t.day old new r = subst (λ h. Migrates t.day (state g.S.Store h) new r) c.self.view_is (c.migrate_all.ensures.migrates t.day) in
+          let ready = ready_to_move t old.now.trees holds.represents in
+          let it : AreMoved t old new r = record {
+            ok = IfOk-weaker r _ _ (λ x did. record { rest = did.1; represents = moved_represent t old.now new.now holds.represents did.0 }) (moves.ok clean holds.rest ready);
+            err = IfErr-weaker r _ _ (λ x left db may. elim (left db may) [
+              | inl same ↦ inl same
+              | inr next ↦ inr (subst (RepresentsRows t) (sym next.2) (moved_represent t old.now next.0 holds.represents next.1), subst AreOfficeTables (sym next.2) (over_trees edition.Two next.0 next.1.is_office))
+            ]) (moves.err clean holds.rest ready);
+            undone = λ is_open. IfErr-weaker r _ _ (λ x left. record { rest = left.1; represents = subst (λ (d : Database). OldRepresentsRows t d.trees) (sym left.0) holds.represents }) (moves.undone clean holds.rest ready is_open);
+            rest = rest_moved t.day old new r clean holds.rest ready moves;
+          } in
+          let ok = it.ok in
+          let err = it.err in
+          let undone = it.undone in
+          let rest = it.rest in
+          search rules;
+    }

@@ -11,47 +11,47 @@ use Rattle.office_store.specs.declared.fault.Fault.TheVariants as fault
 use Rattle.office_desk.specs.Outcomes.{ActsOutcome, all_done, stopped}
 use Rattle.office_json.specs.declared.lists.ListFault.{ListFault}
 use Rattle.office_json.specs.declared.lists.ListFault.TheVariants as list
-use Rattle.office_commands.specs.declared.ending.Ending.{Ending}
-use Rattle.office_commands.specs.declared.ending.Ending.TheVariants.{Done, Refused, SomeRefused, LineRefused, ActRefused, NotJson, CsvHeader, CsvRow, BadWords, File, Socket, SomeFailed, Fault}
+use Rattle.office_commands.specs.declared.exit.Exit.{Exit}
+use Rattle.office_commands.specs.declared.exit.Exit.TheVariants.{Done, Refused, SomeRefused, LineRefused, ActRefused, NotJson, CsvHeader, CsvRow, BadWords, File, Socket, SomeFailed, Fault}
 use Rattle.office_base.specs.declared.stop.Stop.{Stop}
 use Rattle.office_base.specs.declared.stop.Stop.TheVariants as stop
 
 -- a refusal is reported as such, and a writer's error as that of a file
-abbrev pub ending_of : Result (Option Refusal) Io → Ending
-ending_of (Ok None) = Done
-ending_of (Ok (Some refusal)) = Refused refusal
-ending_of (Err failed) = File
+abbrev pub exit_of : Result (Option Refusal) Io → Exit
+exit_of (Ok None) = Done
+exit_of (Ok (Some refusal)) = Refused refusal
+exit_of (Err failed) = File
 
 -- reading or writing that failed is reported as that of a file, lack of memory as fault 30
-abbrev pub ending_of_stop : Stop → Ending
-ending_of_stop stop.Io = File
-ending_of_stop stop.Memory = Fault fault.Memory
+abbrev pub exit_of_stop : Stop → Exit
+exit_of_stop stop.Io = File
+exit_of_stop stop.Memory = Fault fault.Memory
 
 -- a line that is refused is reported with its number
-abbrev pub ending_of_plan : Result (Option (ℕ × Refusal)) Stop → Ending
-ending_of_plan (Ok None) = Done
-ending_of_plan (Ok (Some p)) = LineRefused p.0 p.1
-ending_of_plan (Err stopped_by) = ending_of_stop stopped_by
+abbrev pub exit_of_plan : Result (Option (ℕ × Refusal)) Stop → Exit
+exit_of_plan (Ok None) = Done
+exit_of_plan (Ok (Some p)) = LineRefused p.0 p.1
+exit_of_plan (Err stopped_by) = exit_of_stop stopped_by
 
 -- a text that is no list of acts is reported by what is wrong with it, lack of memory as fault 30
-abbrev pub ending_of_list : ListFault → Ending
-ending_of_list list.NotJson = NotJson
-ending_of_list (list.BadAct place refusal) = ActRefused place refusal
-ending_of_list list.Memory = Fault fault.Memory
+abbrev pub exit_of_list : ListFault → Exit
+exit_of_list list.NotJson = NotJson
+exit_of_list (list.BadAct place refusal) = ActRefused place refusal
+exit_of_list list.Memory = Fault fault.Memory
 
 -- a fault is reported as such, and a refusal among the answers by the exit status alone
-abbrev pub ending_of_acts : ActsOutcome → Ending
-ending_of_acts (all_done told) = if list_any is_refusal told then SomeRefused else Done
-ending_of_acts (stopped told f) = Fault f
+abbrev pub exit_of_acts : ActsOutcome → Exit
+exit_of_acts (all_done replies) = if list_any is_refusal replies then SomeRefused else Done
+exit_of_acts (stopped replies f) = Fault f
 
 -- a service that was poisoned is reported as the fault by which a desk answers no more, and a connection that failed by
 -- the exit status alone
-abbrev pub ending_of_service : Bool → Bool → Ending
-ending_of_service has_failed is_poisoned =
+abbrev pub exit_of_service : Bool → Bool → Exit
+exit_of_service has_failed is_poisoned =
     if is_poisoned then Fault fault.Reopen else if has_failed then SomeFailed else Done
 
 -- 0 done, 1 something refused, 2 bad words, 3 a file, the store or a connection, 4 memory
-abbrev pub exit_status : Ending → ℕ
+abbrev pub exit_status : Exit → ℕ
 exit_status Done = 0
 exit_status (Refused refusal) = 1
 exit_status SomeRefused = 1
@@ -71,7 +71,7 @@ exit_status (Fault fault.Damaged) = 3
 exit_status (Fault fault.Version) = 3
 
 -- the line on standard error, with its line feed, or nothing
-abbrev pub line_said : Ending → List ℕ
+abbrev pub line_said : Exit → List ℕ
 line_said Done = []
 line_said (Refused refusal) = codes "office: refused " ++ decimal (refusal_number refusal) ++ 10 ∷ []
 line_said (LineRefused line refusal) =

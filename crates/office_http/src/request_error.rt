@@ -1,8 +1,8 @@
-//! Failures with a fixed reply of their own, besides the failed checks of a head.
+//! Errors of a request with a fixed reply of their own, besides the failed checks of a head.
 
 /// Why a request is not served, apart from the checks of its head.
 #[derive(Clone, Copy, PartialEq, Eq, Debug)]
-pub enum Failure {
+pub enum RequestError {
     /// The bytes do not begin with a head within the limits.
     Head,
     /// The connection ends before the body does.
