@@ -78,7 +78,7 @@ class Rows:
 
     def fault(self):
         """The name of an item that does not hold; each is asked only where those before it hold."""
-        items = (self.forms, self.edition, self.limits, self.numbering, self.forest, self.names, self.targets_stand, self.closing,
+        items = (self.forms, self.version, self.limits, self.numbering, self.forest, self.names, self.targets_stand, self.closing,
                  self.contents_stand, self.papers, self.events_stand, self.entries_stand, self.runs_stand, self.days)
         return next((item.__name__ for item in items if not item()), None)
 
@@ -86,7 +86,7 @@ class Rows:
         fields = ((form, row[name]) for table, rows in self.tables.items() for row in rows for name, form in FORMS[table].items())
         return len(self.office) == 1 and all(form(value) for form, value in fields)
 
-    def edition(self):
+    def version(self):
         """The tables are those of the version; those of version 2 have nothing in `schedules`."""
         if "schedules2" in self.tables:
             return self.office[0]["version"] == 2 and not self.tables["schedules"]

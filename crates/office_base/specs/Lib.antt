@@ -1,5 +1,5 @@
+pub mod EntityNumbers
 pub mod Numerals
 pub mod Output
 pub mod Refusals
 pub mod Rows
-pub mod ThingNumbers

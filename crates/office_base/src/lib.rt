@@ -11,19 +11,19 @@
 #![tactic(auto)]
 
 mod build;
+mod entity_number;
 mod input;
 mod memory;
 mod numeral;
 mod output;
 mod refusal;
 mod stop;
-mod thing_number;
 
 pub use build::{Rebuild, follows, ordered, push_keyed, push_numbered};
+pub use entity_number::read_entity_number;
 pub use input::read_whole;
 pub use memory::Memory;
 pub use numeral::read_numeral;
 pub use output::{Io, is_interrupted, put_bytes, put_parts, write_out};
 pub use refusal::Refusal;
 pub use stop::Stop;
-pub use thing_number::read_thing_number;

@@ -3,7 +3,7 @@ use Rattle.std.specs.Prelude.{ℕ, ℤ, Option, Some, None, Result, Ok, Err, cod
 use Rattle.std.specs.Str.{bytes_eq}
 use Rattle.clap.specs.Words.{Text}
 use Rattle.office_days.specs.ConfirmCounts.{confirm_days_named}
-use Rattle.office_base.specs.ThingNumbers.{thing_number}
+use Rattle.office_base.specs.EntityNumbers.{entity_number}
 use Rattle.office_days.specs.Texts.{day_named}
 use Rattle.office_base.specs.declared.refusal.Refusal.{Refusal}
 use Rattle.office_base.specs.declared.refusal.Refusal.TheVariants.{BadText}
@@ -81,7 +81,7 @@ command_read (plan_line file) = Ok (plan file)
 command_read (init_line file) = Ok (init file)
 command_read (apply_line file acts) = Ok (apply file acts)
 command_read (resume_line file) = Ok (resume file)
-command_read (certificate_line file number) = certificate_of file (thing_number number)
+command_read (certificate_line file number) = certificate_of file (entity_number number)
 command_read (import_line file day csv) = importation_of file csv (day_named day)
 command_read (export_line file text) = exportation_of file (register_named text)
 command_read (overdue_line file day count) = overdue_of file (day_named day) (confirm_days_named count)

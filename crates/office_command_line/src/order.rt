@@ -6,7 +6,7 @@ ghost use Rattle.office_command_line.specs.Orders.{command, command_read};
 use crate::register::{Register, read_register};
 use crate::service::read_service;
 use crate::words::Words;
-use office_base::{Refusal, read_thing_number};
+use office_base::{Refusal, read_entity_number};
 use office_days::{ConfirmDays, Day, read_confirm_days};
 
 /// What the program is to do: its command, with the operands read if it is on an office's file. `due` and `plan`, which open no office, read theirs where they are done.
@@ -95,7 +95,7 @@ pub fn order_of<'a>(words: Words<'a>) -> Result<Order<'a>, Refusal>
         Words::Init { file } => Ok(Order::Init { file }),
         Words::Apply { file, acts } => Ok(Order::Apply { file, acts }),
         Words::Resume { file } => Ok(Order::Resume { file }),
-        Words::Certificate { file, number } => match read_thing_number(number) {
+        Words::Certificate { file, number } => match read_entity_number(number) {
             Ok(run) => Ok(Order::Certificate { file, run }),
             Err(refusal) => Err(refusal),
         },

@@ -8,7 +8,7 @@ use Rattle.sqlite.specs.State.{State as FileState, HasCleanDisk}
 use Rattle.office_rules.specs.Rows.{rows_of}
 use Rattle.office_rules.specs.Sound.{IsSound}
 use Rattle.office_rules.specs.State.{State, empty_state}
-use Rattle.office_sql.specs.declared.editions.Edition.TheVariants as edition
+use Rattle.office_sql.specs.declared.schema_versions.SchemaVersion.TheVariants as schema_version
 use Rattle.office_store.specs.declared.fault.Fault.{Fault}
 use Rattle.office_desk.specs.Desk.{DeskState}
 use Rattle.office_desk.specs.Leaving.{IsAt}
@@ -16,7 +16,7 @@ use Rattle.office_life.specs.Standing.{RestsAt}
 use Rattle.office_life.specs.Tables.{AreTablesAt, IsOfficeAt}
 use Rattle.office_command_line.specs.Orders.{Command}
 use Rattle.office_commands.specs.NextCommand.{IsLeftBy, IsServedTo}
-use Rattle.office_commands.specs.Opening.{FromOpened, IsUnopened}
+use Rattle.office_commands.specs.Opening.{FromOpened, OfficeOpenFailed}
 use Rattle.office_commands.specs.Running.{RunEnds}
 use Rattle.office_commands.specs.Serving.{IsDeskOf, ServiceEnds}
 use Rattle.office_commands.specs.declared.exit.Exit.{Exit}
@@ -44,11 +44,11 @@ module _ (one : IsOneDatabase) (stay : StaySound) (empty : IsSound empty_state) 
   before_rest (inl (ed, rest, sound, rows)) db may = inl (at_before one stay ends old new s clean sound ed rest rows db may)
   before_rest (inr (blank, none, is)) db may = inr (blank.only db may, none, is)
 
-  unopened_rest : RestsAt old s → (f : Fault) → IsUnopened f old new → (db : Trees) → new.may_leave db → IsOfficeOrBefore old db s
+  unopened_rest : RestsAt old s → (f : Fault) → OfficeOpenFailed f old new → (db : Trees) → new.may_leave db → IsOfficeOrBefore old db s
   unopened_rest (inl (ed, rest, sound, rows)) f it db may = inl (at_unopened one stay ends old new s clean sound ed f rest rows it db may)
   unopened_rest (inr (blank, none, is)) f it db may = elim ((it.left clean).first blank db may) [
     | inl before ↦ inr (before, none, is)
-    | inr made ↦ inl (subst (IsOfficeAt db) (sym is) (record { edition = edition.Two; office = made.1; sound = empty; rows = made.0 }))
+    | inr made ↦ inl (subst (IsOfficeAt db) (sym is) (record { schema_version = schema_version.Two; office = made.1; sound = empty; rows = made.0 }))
   ]
 
 module _ (one : IsOneDatabase) (stay : StaySound) (empty : IsSound empty_state) (ends : IsEnded) {S : Type 0} (g : Ghosts S) (old new : Held S) (s : State) (clean : HasCleanDisk (state g new)) (rests : RestsAt (state g old) s) where

@@ -69,7 +69,7 @@ module _ {D : Type 0} {g : Ghosts D} (image next : Image) (stage : Stage) (s : S
 rests_from : {D : Type 0} {g : Ghosts D} (image : Image) (was last : Held (FileStore D g)) → IsOpenedFrom image was last → HasCleanDisk (file_state last) → (stage : Stage) (s : State) → StandsAt stage image s → RestsAt (file_state was) s
 rests_from image was last it clean stage s (inl (db, held, inl office)) =
     let whole = database_of image db held in
-    let ed = office.edition in
+    let ed = office.schema_version in
     let at = it.rest clean ed db (record { held = ∣ whole ∣₁; office = office.office }) in
     inl (ed, at.0, office.sound, subst (RepresentsRowsIn ed (rows_of s)) (sym at.1) office.rows)
 rests_from image was last it clean stage s (inl (db, held, inr none)) =

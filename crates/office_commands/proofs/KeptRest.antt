@@ -4,7 +4,7 @@ use Rattle.sqlite.specs.Held.{Held, state}
 use Rattle.sqlite.specs.State.{HasCleanDisk}
 use Rattle.sqlite_trees.specs.declared.store.Store.{Ghosts}
 use Rattle.office_rules.specs.State.{State, empty_state}
-use Rattle.office_sql.specs.declared.editions.Edition.TheVariants as edition
+use Rattle.office_sql.specs.declared.schema_versions.SchemaVersion.TheVariants as schema_version
 use Rattle.office_sql.proofs.Rest.{leaves_kept}
 use Rattle.office_desk.specs.Calling.{LeavesRestOf}
 use Rattle.office_desk.specs.Desk.{DeskState}
@@ -24,4 +24,4 @@ module _ {S : Type 0} (g : Ghosts S) (conn : Held S) (desk : DeskState S) (it : 
   kept_after after was_clean spares clean openable =
       let here = was_clean clean in
       let at = found_at here openable in
-      leaves_kept edition.Two (state g conn) (state g desk.held) (state g after.held) at.1.rows.rest ((it.finds here).rest openable) (spares at.0 clean at.1)
+      leaves_kept schema_version.Two (state g conn) (state g desk.held) (state g after.held) at.1.rows.rest ((it.finds here).rest openable) (spares at.0 clean at.1)

@@ -89,7 +89,7 @@ pub command_leaves : IsOneDatabase → StaySound → IsEnded → {D : Type 0} {g
     → HoldsOfficeAt image s → RunsInFiles left image order (Some text) written after exit → LeavesFilesAt image s (IsLeftBy order text written after exit s) left
 command_leaves one stay ends image s order text written after exit left holds (inl none) = unopened_at image s (IsLeftBy order text written after exit s) left none.1
 command_leaves one stay ends image s order text written after exit left holds (inr (last, over, is_left)) =
-    let ed = holds.office.edition in
+    let ed = holds.office.schema_version in
     let held : HeldOffice ed image holds.trees = record { held = holds.held; office = holds.office.office } in
     files_at image s (IsLeftBy order text written after exit s) last
     (λ clean.
@@ -102,7 +102,7 @@ pub service_leaves : IsOneDatabase → StaySound → IsEnded → {D : Type 0} {g
     → HoldsOfficeAt image s → ServesInFiles left image port count written after exit → LeavesFilesAt image s (IsServedTo s) left
 service_leaves one stay ends image s port count written after exit left holds (inl none) = unopened_at image s (IsServedTo s) left none.1
 service_leaves one stay ends image s port count written after exit left holds (inr (last, over, is_left)) =
-    let ed = holds.office.edition in
+    let ed = holds.office.schema_version in
     let held : HeldOffice ed image holds.trees = record { held = holds.held; office = holds.office.office } in
     files_at image s (IsServedTo s) last
     (λ clean.

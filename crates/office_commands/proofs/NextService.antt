@@ -11,8 +11,8 @@ use Rattle.office_rules.specs.Runs.{after_steps, candidates, whole}
 use Rattle.office_rules.specs.Sound.{IsSound}
 use Rattle.office_rules.specs.State.{State}
 use Rattle.office_rules.specs.declared.act.Act.{Act}
-use Rattle.office_sql.specs.declared.editions.Edition.{Edition}
-use Rattle.office_sql.specs.declared.editions.Edition.TheVariants as edition
+use Rattle.office_sql.specs.declared.schema_versions.SchemaVersion.{SchemaVersion}
+use Rattle.office_sql.specs.declared.schema_versions.SchemaVersion.TheVariants as schema_version
 use Rattle.office_sql.specs.Office.{IsAtRestOver}
 use Rattle.office_store.specs.RepresentsRows.{HoldsRows, RepresentsRowsIn}
 use Rattle.office_store.specs.declared.fault.Fault.{Fault}
@@ -33,7 +33,7 @@ use Rattle.office_http.specs.Receiving.{OfficeRequest, acts, cut, refused, reque
 use Rattle.office_http.specs.declared.path_request.PathRequest.TheVariants as path
 use Rattle.office_life.specs.Tables.{IsOfficeAt}
 use Rattle.office_commands.specs.NextCommand.{IsServedTo, LeavesAt}
-use Rattle.office_commands.specs.Opening.{IsUnopened}
+use Rattle.office_commands.specs.Opening.{OfficeOpenFailed}
 use Rattle.office_commands.specs.Serving.{IsDeskOf, ServiceEnds}
 use Rattle.office_commands.specs.declared.exit.Exit.{Exit}
 use Rattle.office_commands.proofs.NextStates.{IsEnded, IsOneDatabase, StaySound, at_rows, at_stop, at_unopened, well_formed_prefix, found_same, sound_acts, sound_steps}
@@ -111,7 +111,7 @@ module _ (stay : StaySound) (ends : IsEnded) (At : Trees → State → Type 0) (
         stop_served t (after_steps t n) (after_steps t (suc n)) (steps_to n t) (steps_to (suc n) t) (sound_steps stay n t sound) (sound_steps stay (suc n) t sound) f d it.leads.1 it.leads.2
 
     unread_served : (r : ℕ) (f : Fault) → IsContentRead g t r (Err f) d → ServedAt t d
-    unread_served r fault.Store it = inr (it.ends.poisoned refl, λ db may. (t, ([], tt, refl), office db t (record { edition = edition.Two; office = it.offices db may; sound = sound; rows = it.leaves db may })))
+    unread_served r fault.Store it = inr (it.ends.poisoned refl, λ db may. (t, ([], tt, refl), office db t (record { schema_version = schema_version.Two; office = it.offices db may; sound = sound; rows = it.leaves db may })))
     unread_served r fault.Memory it = as_it_was t d (it.ends.kept (λ e. cc))
     unread_served r fault.Reopen it = as_it_was t d (it.ends.kept (λ e. cc))
     unread_served r fault.Damaged it = as_it_was t d (it.ends.kept (λ e. cc))
@@ -163,7 +163,7 @@ module _ (stay : StaySound) (ends : IsEnded) (At : Trees → State → Type 0) (
 -- ---- a service
 
 module _ (stay : StaySound) (ends : IsEnded) (At : Trees → State → Type 0) (office : (db : Trees) (u : State) → IsOfficeAt db u → At db u) {S : Type 0} (g : Ghosts S) (old new : Held S) (s : State) (clean : HasCleanDisk (state g new))
-    (desk_at : (desk : DeskState S) → HasCleanDisk (state g desk.held) → IsDeskOf g old desk → IsAt g s desk) (at_unopened : (f : Fault) → IsUnopened f (state g old) (state g new) → (db : Trees) → (state g new).may_leave db → At db s) where
+    (desk_at : (desk : DeskState S) → HasCleanDisk (state g desk.held) → IsDeskOf g old desk → IsAt g s desk) (at_unopened : (f : Fault) → OfficeOpenFailed f (state g old) (state g new) → (db : Trees) → (state g new).may_leave db → At db s) where
   abbrev served : DeskState S → Type 0
   served d = ServedAt stay ends At office g s d
 
@@ -183,12 +183,12 @@ module _ (stay : StaySound) (ends : IsEnded) (At : Trees → State → Type 0) (
 
 module _ (one : IsOneDatabase) (stay : StaySound) (ends : IsEnded) {S : Type 0} (g : Ghosts S) (old new : Held S) (s : State) (clean : HasCleanDisk (state g new)) (sound : IsSound s) where
   -- the desk that was opened is at the state at which the office was
-  pub desk_at : (ed : Edition) → IsAtRestOver ed (state g old) → RepresentsRowsIn ed (rows_of s) (state g old).now.trees → (desk : DeskState S) → HasCleanDisk (state g desk.held) → IsDeskOf g old desk → IsAt g s desk
+  pub desk_at : (ed : SchemaVersion) → IsAtRestOver ed (state g old) → RepresentsRowsIn ed (rows_of s) (state g old).now.trees → (desk : DeskState S) → HasCleanDisk (state g desk.held) → IsDeskOf g old desk → IsAt g s desk
   desk_at ed rest rows desk clean_desk of =
       let m = of.opened.found ed clean_desk rest in
       subst (λ (t : State). IsAt g t desk) (found_same one stay ends (state g old) (state g new) s clean sound ed m.0 rows m.1) m.2
 
-  pub service_left : (ed : Edition) → IsAtRestOver ed (state g old) → RepresentsRowsIn ed (rows_of s) (state g old).now.trees → (port count : ℕ) (written after : Option (List ℕ)) (exit : Exit) → ServiceEnds g port count old new written after exit
+  pub service_left : (ed : SchemaVersion) → IsAtRestOver ed (state g old) → RepresentsRowsIn ed (rows_of s) (state g old).now.trees → (port count : ℕ) (written after : Option (List ℕ)) (exit : Exit) → ServiceEnds g port count old new written after exit
       → LeavesAt (IsServedTo s) (state g new)
   service_left ed rest rows port count written after exit it =
       service_so stay ends IsOfficeAt (λ db u at. at) g old new s clean (desk_at ed rest rows) (λ f unopened. at_unopened one stay ends (state g old) (state g new) s clean sound ed f rest rows unopened) port count written after exit it

@@ -20,8 +20,8 @@ use Rattle.office_rules.specs.State.{State}
 use Rattle.office_rules.specs.declared.act.Act.{Act}
 use Rattle.office_rules.specs.declared.act.Act.TheVariants as act
 use Rattle.office_rules.specs.declared.answer.Answer.{Answer}
-use Rattle.office_sql.specs.declared.editions.Edition.{Edition}
-use Rattle.office_sql.specs.declared.editions.Edition.TheVariants as edition
+use Rattle.office_sql.specs.declared.schema_versions.SchemaVersion.{SchemaVersion}
+use Rattle.office_sql.specs.declared.schema_versions.SchemaVersion.TheVariants as schema_version
 use Rattle.office_sql.specs.Office.{IsAtRestOver, IsOfficeIn}
 use Rattle.office_store.specs.RepresentsRows.{HoldsRows, RepresentsRows, RepresentsRowsIn}
 use Rattle.office_store.specs.declared.fault.Fault.{Fault}
@@ -48,7 +48,7 @@ use Rattle.office_wire.specs.declared.record_import.ImportStop.TheVariants as im
 use Rattle.office_commands.specs.Importing.{AreImported, ImportsAt, IsRowCut, exit_of_import}
 use Rattle.office_life.specs.Tables.{IsOfficeAt}
 use Rattle.office_commands.specs.NextCommand.{AreActsDone, AreRowsAdded, AreStepsTaken, AreWritten, IsLeftBy, IsUntouched, LeavesAt}
-use Rattle.office_commands.specs.Opening.{FromOpened, IsNotOpened, IsOpened, IsRestKept, IsUnopened}
+use Rattle.office_commands.specs.Opening.{EndsOpenFailed, FromOpened, IsOpened, IsRestKept, OfficeOpenFailed}
 use Rattle.office_commands.specs.Resuming.{ResumeEnds, Resumes}
 use Rattle.office_commands.specs.Making.{InitEnds}
 use Rattle.office_commands.specs.Running.{RunEnds}
@@ -58,7 +58,7 @@ use Rattle.office_commands.specs.declared.exit.Exit.TheVariants as how
 -- ---- what the laws say
 
 abbrev pub IsOneDatabase : Type 0
-IsOneDatabase = (ed : Edition) (s u : State) (db : Trees) → IsSound s → IsSound u → RepresentsRowsIn ed (rows_of s) db → RepresentsRowsIn ed (rows_of u) db → s ≡ u
+IsOneDatabase = (ed : SchemaVersion) (s u : State) (db : Trees) → IsSound s → IsSound u → RepresentsRowsIn ed (rows_of s) db → RepresentsRowsIn ed (rows_of u) db → s ≡ u
 
 abbrev pub StaySound : Type 0
 StaySound = (s : State) (a : Act) → IsSound s → IsWellFormedAct a → IsSound (step s a).1
@@ -97,8 +97,8 @@ pub at_rows : (new : FileState) (u : State) → IsSound u → HoldsRows (rows_of
 at_rows new u sound holds db may =
     let is = sym (holds.rest.only db may) in
     record {
-      edition = edition.Two;
-      office = subst (λ (t : Trees). IsOfficeIn edition.Two t) is (new.now.schema, holds.rest.office);
+      schema_version = schema_version.Two;
+      office = subst (λ (t : Trees). IsOfficeIn schema_version.Two t) is (new.now.schema, holds.rest.office);
       sound = sound;
       rows = subst (λ (t : Trees). RepresentsRows (rows_of u) t) is holds.represents;
     }
@@ -107,8 +107,8 @@ at_rows new u sound holds db may =
 pub at_stop : (new : FileState) (v w : State) (f : Fault) → IsSound v → IsSound w → StopsLeaving v w f new → (db : Trees) → new.may_leave db → IsOfficeAt db v ⊎ IsOfficeAt db w
 at_stop new v w fault.Memory sv sw left db may = inl (at_rows new v sv left db may)
 at_stop new v w fault.Store sv sw left db may = elim (left.either db may) [
-  | inl old ↦ inl (record { edition = edition.Two; office = left.offices db may; sound = sv; rows = old })
-  | inr next ↦ inr (record { edition = edition.Two; office = left.offices db may; sound = sw; rows = next })
+  | inl old ↦ inl (record { schema_version = schema_version.Two; office = left.offices db may; sound = sv; rows = old })
+  | inr next ↦ inr (record { schema_version = schema_version.Two; office = left.offices db may; sound = sw; rows = next })
 ]
 at_stop new v w fault.Reopen sv sw left db may = inr (at_rows new w sw left db may)
 at_stop new v w fault.Damaged sv sw left db may = absurd left
@@ -116,33 +116,33 @@ at_stop new v w fault.Version sv sw left db may = absurd left
 
 module _ (one : IsOneDatabase) (stay : StaySound) (ends : IsEnded) (old new : FileState) (s : State) (clean : HasCleanDisk new) (sound : IsSound s) where
   -- the state at which the office was found is the one at which it was
-  pub found_same : (ed : Edition) (t : State) → RepresentsRowsIn ed (rows_of s) old.now.trees → RepresentIn ed old.now.trees t → t ≡ s
+  pub found_same : (ed : SchemaVersion) (t : State) → RepresentsRowsIn ed (rows_of s) old.now.trees → RepresentIn ed old.now.trees t → t ≡ s
   found_same ed t rows found = one ed t s old.now.trees found.sound sound found.rows rows
 
-  pub of_opened : (ed : Edition) (P : State → Type 0) → IsAtRestOver ed old → RepresentsRowsIn ed (rows_of s) old.now.trees → FromOpened old new P → P s
+  pub of_opened : (ed : SchemaVersion) (P : State → Type 0) → IsAtRestOver ed old → RepresentsRowsIn ed (rows_of s) old.now.trees → FromOpened old new P → P s
   of_opened ed P rest rows it = let m = it.found ed clean rest in subst P (found_same ed m.0 rows m.1) m.2
 
   -- what was there before
-  pub at_before : (ed : Edition) → IsAtRestOver ed old → RepresentsRowsIn ed (rows_of s) old.now.trees → (db : Trees) → old.may_leave db → IsOfficeAt db s
+  pub at_before : (ed : SchemaVersion) → IsAtRestOver ed old → RepresentsRowsIn ed (rows_of s) old.now.trees → (db : Trees) → old.may_leave db → IsOfficeAt db s
   at_before ed rest rows db may =
       let is = sym (rest.only db may) in
       record {
-        edition = ed;
+        schema_version = ed;
         office = subst (λ (t : Trees). IsOfficeIn ed t) is (old.now.schema, rest.office);
         sound = sound;
         rows = subst (λ (t : Trees). RepresentsRowsIn ed (rows_of s) t) is rows;
       }
 
-  pub at_unopened : (ed : Edition) (f : Fault) → IsAtRestOver ed old → RepresentsRowsIn ed (rows_of s) old.now.trees → IsUnopened f old new → (db : Trees) → new.may_leave db → IsOfficeAt db s
-  at_unopened edition.One f rest rows it db may = elim (((it.left clean).office edition.One rest).leaves db may) [
-    | inl before ↦ at_before edition.One rest rows db before
-    | inr next ↦ record { edition = edition.Two; office = next.3; sound = sound; rows = subst (λ (t : State). RepresentsRows (rows_of t) db) (found_same edition.One next.0 rows next.1) next.2 }
+  pub at_unopened : (ed : SchemaVersion) (f : Fault) → IsAtRestOver ed old → RepresentsRowsIn ed (rows_of s) old.now.trees → OfficeOpenFailed f old new → (db : Trees) → new.may_leave db → IsOfficeAt db s
+  at_unopened schema_version.One f rest rows it db may = elim (((it.left clean).office schema_version.One rest).leaves db may) [
+    | inl before ↦ at_before schema_version.One rest rows db before
+    | inr next ↦ record { schema_version = schema_version.Two; office = next.3; sound = sound; rows = subst (λ (t : State). RepresentsRows (rows_of t) db) (found_same schema_version.One next.0 rows next.1) next.2 }
   ]
-  at_unopened edition.Two f rest rows it db may = at_before edition.Two rest rows db (((it.left clean).office edition.Two rest).leaves db may)
+  at_unopened schema_version.Two f rest rows it db may = at_before schema_version.Two rest rows db (((it.left clean).office schema_version.Two rest).leaves db may)
 
 -- where an office that was opened so may be left, whatever the tables are that count as being at a state
 module _ (stay : StaySound) (ends : IsEnded) (At : Trees → State → Type 0) (office : (db : Trees) (u : State) → IsOfficeAt db u → At db u) (old new : FileState) (s : State) (sound : IsSound s)
-    (of_opened : (P : State → Type 0) → FromOpened old new P → P s) (at_unopened : (f : Fault) → IsUnopened f old new → (db : Trees) → new.may_leave db → At db s) where
+    (of_opened : (P : State → Type 0) → FromOpened old new P → P s) (at_unopened : (f : Fault) → OfficeOpenFailed f old new → (db : Trees) → new.may_leave db → At db s) where
   abbrev LeavesSo : (State → Type 0) → Type 0
   LeavesSo Is = (db : Trees) → new.may_leave db → (u : State) × Is u × At db u
 
@@ -159,7 +159,7 @@ module _ (stay : StaySound) (ends : IsEnded) (At : Trees → State → Type 0) (
   untouched : (Is : State → Type 0) (written after : Option (List ℕ)) → (IsUntouched written after s s → Is s) → after ≡ written → ((db : Trees) → new.may_leave db → At db s) → LeavesSo Is
   untouched Is written after is same at db may = (s, is (refl, same), at db may)
 
-  not_opened : (written after : Option (List ℕ)) (exit : Exit) → IsNotOpened old new written after exit → ((db : Trees) → new.may_leave db → At db s) × (after ≡ written)
+  not_opened : (written after : Option (List ℕ)) (exit : Exit) → EndsOpenFailed old new written after exit → ((db : Trees) → new.may_leave db → At db s) × (after ≡ written)
   not_opened written after exit it = (at_unopened it.0 it.2, it.3)
 
   opened_left : IsOpened old new → LeavesSo (λ u. u ≡ s)
@@ -220,7 +220,7 @@ module _ (stay : StaySound) (ends : IsEnded) (At : Trees → State → Type 0) (
             | inr some ↦ inr (some.1, subst (λ (xs : List Answer). AppendsSome written after (answer_lines xs)) came.answered some.0)
           ])
 
-    applies_left : (exit : Exit) → IsNotOpened old new written after exit ⊎ IsRestKept old new × Applies (FromOpened old new) text new written after exit → LeavesSo (ActsLeft exit)
+    applies_left : (exit : Exit) → EndsOpenFailed old new written after exit ⊎ IsRestKept old new × Applies (FromOpened old new) text new written after exit → LeavesSo (ActsLeft exit)
     applies_left exit (inl none) = let it = not_opened written after exit none in untouched (ActsLeft exit) written after inl it.1 it.0
     applies_left exit (inr (kept, inl unread)) = untouched (ActsLeft exit) written after inl unread.2 (has_rows s sound (of_opened (λ t. HoldsRows (rows_of t) new) unread.1))
     applies_left exit (inr (kept, inr it)) = performs_left it.0 it.1 exit it.2
@@ -300,7 +300,7 @@ module _ (stay : StaySound) (ends : IsEnded) (At : Trees → State → Type 0) (
     imports_left exit (Err (import.Fault f)) is (fs, reported, u, done, lines, inr it) = cut_row exit fs reported u it.0 f it.1 done lines it.2
     imports_left exit (Err import.Io) is (fs, reported, u, prefix, done, holds, out) = added exit fs reported u prefix done (inr (is, out)) holds
 
-    import_left : (exit : Exit) → IsNotOpened old new written after exit ⊎ ImportsAt (FromOpened old new) day text new written after exit → LeavesSo (RowsLeft exit)
+    import_left : (exit : Exit) → EndsOpenFailed old new written after exit ⊎ ImportsAt (FromOpened old new) day text new written after exit → LeavesSo (RowsLeft exit)
     import_left exit (inl none) = let it = not_opened written after exit none in untouched (RowsLeft exit) written after inl it.1 it.0
     import_left exit (inr (done, is, it)) = imports_left exit done is (of_opened (AreImported day text done new written after) it)
 
@@ -339,7 +339,7 @@ module _ (stay : StaySound) (ends : IsEnded) (At : Trees → State → Type 0) (
 
 module _ (stay : StaySound) (ends : IsEnded) (At : Trees → State → Type 0) (office : (db : Trees) (u : State) → IsOfficeAt db u → At db u) {S : Type 0} (g : Ghosts S) (old new : Held S) (s : State) (sound : IsSound s)
     (of_opened : (P : State → Type 0) → FromOpened (state g old) (state g new) P → P s) (before : (db : Trees) → (state g old).may_leave db → At db s)
-    (at_unopened : (f : Fault) → IsUnopened f (state g old) (state g new) → (db : Trees) → (state g new).may_leave db → At db s) where
+    (at_unopened : (f : Fault) → OfficeOpenFailed f (state g old) (state g new) → (db : Trees) → (state g new).may_leave db → At db s) where
   -- whatever a crash leaves of it is at a state of this kind
   abbrev LeftSo : (State → Type 0) → Held S → Type 0
   LeftSo Is h = (db : Trees) → (state g h).may_leave db → (u : State) × Is u × At db u
@@ -363,7 +363,7 @@ module _ (stay : StaySound) (ends : IsEnded) (At : Trees → State → Type 0) (
   command_so (command.certificate file run) text written after exit it = certificate_left stay ends At office (state g old) (state g new) s sound of_opened at_unopened run written after exit it
 
 -- over an office at rest
-pub command_left : IsOneDatabase → StaySound → IsEnded → {S : Type 0} (g : Ghosts S) (old new : Held S) (s : State) → HasCleanDisk (state g new) → IsSound s → (ed : Edition) → IsAtRestOver ed (state g old) → RepresentsRowsIn ed (rows_of s) (state g old).now.trees
+pub command_left : IsOneDatabase → StaySound → IsEnded → {S : Type 0} (g : Ghosts S) (old new : Held S) (s : State) → HasCleanDisk (state g new) → IsSound s → (ed : SchemaVersion) → IsAtRestOver ed (state g old) → RepresentsRowsIn ed (rows_of s) (state g old).now.trees
     → (order : Command) (text : List ℕ) (written after : Option (List ℕ)) (exit : Exit) → RunEnds g order (Some text) old new written after exit → LeavesAt (IsLeftBy order text written after exit s) (state g new)
 command_left one stay ends g old new s clean sound ed rest rows order text written after exit it =
     let was = state g old in

@@ -12,12 +12,12 @@ use Rattle.sqlite_wal.specs.Recovery.{Image}
 use Rattle.sqlite.specs.Files.{HoldsDatabase, file_state, image_of}
 use Rattle.sqlite.specs.Held.{AreDatabases, Held}
 use Rattle.sqlite.proofs.Theorems.{opens_again}
-use Rattle.office_sql.specs.declared.editions.Edition.{Edition}
+use Rattle.office_sql.specs.declared.schema_versions.SchemaVersion.{SchemaVersion}
 use Rattle.office_sql.specs.Office.{IsOfficeIn}
 use Rattle.office_commands.specs.Files.{HeldOffice, IsClosedCopy, LeavesAnOffice}
 
 module _ {D : Type 0} {g : Ghosts D} (last : Held (FileStore D g)) where
-  module _ (it : Files D) (ed : Edition) (copied : AreClean g it.log it.db → IsClosedCopy last it) (clean : AreClean g it.log it.db) (office : IsOfficeIn ed (file_state last).committed.trees) where
+  module _ (it : Files D) (ed : SchemaVersion) (copied : AreClean g it.log it.db → IsClosedCopy last it) (clean : AreClean g it.log it.db) (office : IsOfficeIn ed (file_state last).committed.trees) where
     pub held_closed : HeldOffice ed (image_of g it) (file_state last).committed.trees
     held_closed = record { held = (copied clean).copied.seen.both; office = office }
 
@@ -29,7 +29,7 @@ module _ {D : Type 0} {g : Ghosts D} (last : Held (FileStore D g)) where
   are_databases leaves db may = let is = leaves db may in (is.1.0, is.1.1.has.database)
 
   pub held_crashed : IsTrue (view last.store).is_numbered → LeavesAnOffice (file_state last) → (left : Image) → (state last.store).may_leave left
-      → ∥ ((trees : Trees) × (ed : Edition) × (file_state last).may_leave trees × HeldOffice ed left trees) ∥₁
+      → ∥ ((trees : Trees) × (ed : SchemaVersion) × (file_state last).may_leave trees × HeldOffice ed left trees) ∥₁
   held_crashed numbered leaves left may =
       ∥∥₁_map (opens_again last.store numbered (are_databases leaves) left may) (λ (db : (x : Trees) × recovers last.store x × HoldsDatabase left x).
       let is = leaves db.0 db.1 in

@@ -3,10 +3,10 @@ use Rattle.std.proofs.Common.{ap, subst}
 use Rattle.sqlite.specs.Held.{Held, state}
 use Rattle.sqlite_trees.specs.declared.store.Store.{Ghosts}
 use Rattle.office_store.specs.declared.fault.Fault.{Fault}
-use Rattle.office_desk.specs.Opening.{GivesBack}
-use Rattle.office_commands.specs.Opening.{IsUnopened}
+use Rattle.office_desk.specs.Opening.{OpenFailed}
+use Rattle.office_commands.specs.Opening.{OfficeOpenFailed}
 
-pub unopened : {S : Type 0} (g : Ghosts S) (conn : Held S) (f : Fault) (back : Held S) → GivesBack g conn f back → IsUnopened f (state g conn) (state g back)
+pub unopened : {S : Type 0} (g : Ghosts S) (conn : Held S) (f : Fault) (back : Held S) → OpenFailed g conn f back → OfficeOpenFailed f (state g conn) (state g back)
 unopened {S = S} g conn f back it = record {
   left = it.left;
   anew = λ none. (it.anew none).faults;

@@ -15,7 +15,7 @@ use Rattle.office_commands.specs.Calling.{Reports}
 use Rattle.office_commands.specs.ExitStatuses.{exit_of_acts}
 use Rattle.office_commands.specs.declared.exit.Exit.{Exit}
 use Rattle.office_commands.specs.declared.exit.Exit.TheVariants as how
-use Rattle.office_commands.specs.Opening.{FromOpened, IsNotOpened, IsRestKept}
+use Rattle.office_commands.specs.Opening.{EndsOpenFailed, FromOpened, IsRestKept}
 
 -- acts were performed: what they came to is reported; and they came to it at the state of the desk
 pub record Performs (AtState : (State → Type 0) → Type 0) (acts : List Act) (new : FileState)
@@ -44,7 +44,7 @@ Applies AtState text new written after exit =
 -- `apply FILE ACTS` where the text of acts was read, by the exit; what else the file has is kept
 abbrev pub TextEnds : List ℕ → FileState → FileState → Option (List ℕ) → Option (List ℕ) → Exit → Type 0
 TextEnds text old new written after exit =
-    IsNotOpened old new written after exit
+    EndsOpenFailed old new written after exit
     ⊎ IsRestKept old new × Applies (FromOpened old new) text new written after exit
 
 -- the text of acts was not read to its end, or memory ran out for it, and nothing was done

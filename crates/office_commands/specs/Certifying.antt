@@ -8,7 +8,7 @@ use Rattle.office_store.specs.declared.fault.Fault.TheVariants as fault
 use Rattle.office_commands.specs.Calling.{Reports}
 use Rattle.office_commands.specs.declared.exit.Exit.{Exit}
 use Rattle.office_commands.specs.declared.exit.Exit.TheVariants as how
-use Rattle.office_commands.specs.Opening.{FromOpened, IsNotOpened, IsOpened}
+use Rattle.office_commands.specs.Opening.{EndsOpenFailed, FromOpened, IsOpened}
 
 -- the certificate of the run in the state; None where there is none
 abbrev pub IsCertificate : ℕ → Option (List ℕ) → State → Type 0
@@ -29,5 +29,5 @@ Certifies AtState run written after exit =
 -- `certificate FILE N`, by its exit; an office of version 2 that was opened stays as it was
 abbrev pub CertificateEnds : ℕ → FileState → FileState → Option (List ℕ) → Option (List ℕ) → Exit → Type 0
 CertificateEnds run old new written after exit =
-    IsNotOpened old new written after exit
+    EndsOpenFailed old new written after exit
     ⊎ IsOpened old new × Certifies (FromOpened old new) run written after exit

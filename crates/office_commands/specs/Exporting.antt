@@ -11,7 +11,7 @@ use Rattle.office_command_line.specs.declared.register.Register.{Register}
 use Rattle.office_command_line.specs.declared.register.Register.TheVariants as register
 use Rattle.office_commands.specs.declared.exit.Exit.{Exit}
 use Rattle.office_commands.specs.declared.exit.Exit.TheVariants as how
-use Rattle.office_commands.specs.Opening.{FromOpened, IsNotOpened, IsOpened}
+use Rattle.office_commands.specs.Opening.{EndsOpenFailed, FromOpened, IsOpened}
 
 -- what stopped an export is reported as such
 abbrev pub exit_of_export : Result (Unit {0}) ExportStop → Exit
@@ -41,4 +41,4 @@ Exports AtState it written after exit =
 -- opened stays as it was
 abbrev pub ExportEnds : Register → FileState → FileState → Option (List ℕ) → Option (List ℕ) → Exit → Type 0
 ExportEnds it old new written after exit =
-    IsNotOpened old new written after exit ⊎ IsOpened old new × Exports (FromOpened old new) it written after exit
+    EndsOpenFailed old new written after exit ⊎ IsOpened old new × Exports (FromOpened old new) it written after exit

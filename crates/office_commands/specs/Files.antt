@@ -13,7 +13,7 @@ use Rattle.sqlite.specs.Closing.{IsCopied}
 use Rattle.sqlite.specs.Files.{AreFoundIn, HoldsDatabase, IsClosed, IsEmpty, file_state, image_of, over_files}
 use Rattle.sqlite.specs.Held.{Held, state}
 use Rattle.sqlite.specs.State.{State as FileState, HasCleanDisk}
-use Rattle.office_sql.specs.declared.editions.Edition.{Edition}
+use Rattle.office_sql.specs.declared.schema_versions.SchemaVersion.{SchemaVersion}
 use Rattle.office_sql.specs.Office.{IsAtRestOver, IsBlank, IsOfficeIn}
 use Rattle.office_store.specs.declared.fault.Fault.TheVariants as fault
 use Rattle.office_life.specs.Tables.{HoldsTables}
@@ -28,13 +28,13 @@ use Rattle.office_commands.specs.declared.office_files.FilesLeft.{FilesLeft}
 use Rattle.office_commands.specs.declared.office_files.FilesLeft.TheVariants as files
 
 -- the two files held this database, which has the office's tables of that version, beside whatever else
-pub record HeldOffice (ed : Edition) (image : Image) (trees : Trees) : Type 0 where
+pub record HeldOffice (ed : SchemaVersion) (image : Image) (trees : Trees) : Type 0 where
   pub held : ∥ HoldsDatabase image trees ∥₁
   pub office : IsOfficeIn ed trees
 
 -- whatever tables a crash leaves, they are an office's, of one version or the other
 abbrev pub LeavesAnOffice : FileState → Type 0
-LeavesAnOffice s = (db : Trees) → s.may_leave db → (ed : Edition) × IsOfficeIn ed db
+LeavesAnOffice s = (db : Trees) → s.may_leave db → (ed : SchemaVersion) × IsOfficeIn ed db
 
 -- files that held this were opened as that connection, as far as a later one is clean: it is at rest over the office
 -- that they held, or has room for one where it found nothing
@@ -42,7 +42,7 @@ pub record IsOpenedFrom {D : Type 0} {g : Ghosts D} (image : Image) (was last : 
   pub found : HasCleanDisk (file_state last) → AreFoundIn image (file_state was).now.trees
   pub holds : HasCleanDisk (file_state last) → (trees : Trees) → HoldsDatabase image trees
       → (file_state was).now.trees ≡ trees
-  pub rest : HasCleanDisk (file_state last) → (ed : Edition) (trees : Trees) → HeldOffice ed image trees
+  pub rest : HasCleanDisk (file_state last) → (ed : SchemaVersion) (trees : Trees) → HeldOffice ed image trees
       → IsAtRestOver ed (file_state was) × ((file_state was).now.trees ≡ trees)
   pub blank : HasCleanDisk (file_state last) → IsEmpty (file_state was).now.trees → IsBlank (file_state was)
 

@@ -19,7 +19,7 @@ use Rattle.office_csv.specs.ImportText.{LacksHeader}
 use Rattle.office_wire.specs.declared.record_import.ImportStop.{ImportStop}
 use Rattle.office_wire.specs.declared.record_import.ImportStop.TheVariants as import
 use Rattle.office_wire.specs.Importing.{AreAllRows, AreLinesOut, ArePrefixRows, AreRowsBeforeBad, AreRowsDone, AreSomeRows, lines_from, refused_count}
-use Rattle.office_commands.specs.Opening.{FromOpened, IsNotOpened}
+use Rattle.office_commands.specs.Opening.{EndsOpenFailed, FromOpened}
 use Rattle.office_commands.specs.declared.exit.Exit.{Exit}
 use Rattle.office_commands.specs.declared.exit.Exit.TheVariants as how
 
@@ -94,5 +94,5 @@ ImportsAt AtState day text new written after exit =
 abbrev pub ImportEnds : ℤ → Option (List ℕ) → FileState → FileState → Option (List ℕ) → Option (List ℕ) → Exit
     → Type 0
 ImportEnds day text old new written after exit =
-    IsNotOpened old new written after exit
+    EndsOpenFailed old new written after exit
     ⊎ ImportsAt (FromOpened old new) day (option_map strip_bom text) new written after exit

@@ -4,14 +4,14 @@ use Rattle.sqlite.specs.State.{State as FileState, HasCleanDisk}
 use Rattle.office_rules.specs.Rows.{rows_of}
 use Rattle.office_rules.specs.State.{State, empty_state}
 use Rattle.office_sql.specs.Names.{has_other_table, has_used_name}
-use Rattle.office_sql.specs.declared.editions.Edition.{Edition}
+use Rattle.office_sql.specs.declared.schema_versions.SchemaVersion.{SchemaVersion}
 use Rattle.office_sql.specs.Office.{IsAtRest, IsAtRestOver, IsBlank}
 use Rattle.office_store.specs.Adopted.{LeavesLess}
 use Rattle.office_store.specs.Calling.{has_office_table}
 use Rattle.office_store.specs.RepresentsRows.{HoldsRows}
 use Rattle.office_store.specs.declared.fault.Fault.{Fault}
 use Rattle.office_store.specs.declared.fault.Fault.TheVariants as fault
-use Rattle.office_desk.specs.Opening.{IsOpenable, LeavesRest, LeavesUnopened, RepresentIn}
+use Rattle.office_desk.specs.Opening.{IsOpenable, LeavesRest, OpenFailedLeaves, RepresentIn}
 use Rattle.office_commands.specs.declared.exit.Exit.{Exit}
 use Rattle.office_commands.specs.declared.exit.Exit.TheVariants as how
 
@@ -24,7 +24,7 @@ pub record FromOpened (old new : FileState) (P : State → Type 0) : Type 0 wher
   -- of a new office, where there was room for one
   pub made : HasCleanDisk new → IsBlank old → P empty_state
   -- else of the state that the tables of either version represent
-  pub found : (ed : Edition) → HasCleanDisk new → IsAtRestOver ed old
+  pub found : (ed : SchemaVersion) → HasCleanDisk new → IsAtRestOver ed old
       → (s : State) × RepresentIn ed old.now.trees s × P s
 
 -- the office was opened: a new one where there was none, else the one that the tables represent
@@ -37,9 +37,9 @@ pub record IsOpened (old new : FileState) : Type 0 where
   pub rest : IsRestKept old new
 
 -- the office was not opened, by this fault
-pub record IsUnopened (f : Fault) (old new : FileState) : Type 0 where
+pub record OfficeOpenFailed (f : Fault) (old new : FileState) : Type 0 where
   -- what a crash leaves, by what was there
-  pub left : HasCleanDisk new → LeavesUnopened old new f
+  pub left : HasCleanDisk new → OpenFailedLeaves old new f
   pub anew : has_office_table old ≡ false → (f ≡ fault.Damaged) ⊎ (f ≡ fault.Store)
   -- damaged without a table `office`: just where another of its tables is there, and then nothing was done
   pub other_tables : has_office_table old ≡ false → f ≡ fault.Damaged
@@ -52,6 +52,6 @@ pub record IsUnopened (f : Fault) (old new : FileState) : Type 0 where
   pub outside : new.in_transaction ≡ false
 
 -- the office was not opened, by this fault, and nothing is written
-abbrev pub IsNotOpened : FileState → FileState → Option (List ℕ) → Option (List ℕ) → Exit → Type 0
-IsNotOpened old new written after exit =
-    (f : Fault) × (exit ≡ how.Fault f) × IsUnopened f old new × (after ≡ written)
+abbrev pub EndsOpenFailed : FileState → FileState → Option (List ℕ) → Option (List ℕ) → Exit → Type 0
+EndsOpenFailed old new written after exit =
+    (f : Fault) × (exit ≡ how.Fault f) × OfficeOpenFailed f old new × (after ≡ written)

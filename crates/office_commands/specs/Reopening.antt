@@ -10,7 +10,7 @@ use Rattle.sqlite_wal.specs.Reads.{AreClean}
 use Rattle.sqlite_wal.specs.Recovery.{Image}
 use Rattle.sqlite.specs.Files.{file_state, image_of}
 use Rattle.sqlite.specs.Held.{Held}
-use Rattle.office_sql.specs.declared.editions.Edition.{Edition}
+use Rattle.office_sql.specs.declared.schema_versions.SchemaVersion.{SchemaVersion}
 use Rattle.office_sql.specs.Office.{IsOfficeIn}
 use Rattle.office_rules.specs.State.{State}
 use Rattle.office_command_line.specs.Orders.{Command}
@@ -21,14 +21,14 @@ use Rattle.office_commands.specs.declared.office_files.FilesLeft.{FilesLeft}
 use Rattle.office_commands.specs.declared.office_files.FilesLeft.TheVariants as files
 
 -- two files hold these tables of an office, as they read now and after any crash
-pub record KeepOffice {D : Type 0} (g : Ghosts D) (ed : Edition) (it : Files D) (trees : Trees) : Type 0 where
+pub record KeepOffice {D : Type 0} (g : Ghosts D) (ed : SchemaVersion) (it : Files D) (trees : Trees) : Type 0 where
   pub now : HeldOffice ed (image_of g it) trees
   pub after_a_crash : (image : Image) → outcomes g it.log it.db image → HeldOffice ed image trees
 
 -- a connection whose last commit is an office's was closed: its files hold that office
 abbrev pub ClosedFilesKeepOffice : {D : Type 0} → Ghosts D → Type 0
 ClosedFilesKeepOffice {D} g =
-    (last : Held (FileStore D g)) (it : Files D) (ed : Edition) → IsLeftOf last (files.Closed it)
+    (last : Held (FileStore D g)) (it : Files D) (ed : SchemaVersion) → IsLeftOf last (files.Closed it)
     → AreClean g it.log it.db
     → IsOfficeIn ed (file_state last).committed.trees → KeepOffice g ed it (file_state last).committed.trees
 
@@ -37,7 +37,7 @@ ClosedFilesKeepOffice {D} g =
 abbrev pub CrashHoldsOffice : {D : Type 0} {g : Ghosts D} → Held (FileStore D g) → Type 0
 CrashHoldsOffice last =
     LeavesAnOffice (file_state last) → (left : Image) → (store_state last.store).may_leave left
-    → ∥ ((trees : Trees) × (ed : Edition) × (file_state last).may_leave trees × HeldOffice ed left trees) ∥₁
+    → ∥ ((trees : Trees) × (ed : SchemaVersion) × (file_state last).may_leave trees × HeldOffice ed left trees) ∥₁
 
 -- over files that hold an office at a state a command was run: they hold one at a state at which the command leaves it
 abbrev pub CommandLeavesOffice : {D : Type 0} → Ghosts D → Type 0

@@ -8,7 +8,7 @@ use Rattle.office_desk.specs.Resumptions.{RunLeft, RunOutcome, none_open, run_cl
 use Rattle.office_commands.specs.Calling.{Reports}
 use Rattle.office_commands.specs.declared.exit.Exit.{Exit}
 use Rattle.office_commands.specs.declared.exit.Exit.TheVariants as how
-use Rattle.office_commands.specs.Opening.{FromOpened, IsNotOpened, IsRestKept}
+use Rattle.office_commands.specs.Opening.{EndsOpenFailed, FromOpened, IsRestKept}
 
 -- the line that reports the run that was closed
 abbrev pub certificate_line : ℕ → List ℕ
@@ -27,5 +27,5 @@ Resumes AtState new written after exit = (o : RunOutcome) × AtState (RunLeft o 
 -- `resume FILE`, by its exit; what else the file has is kept
 abbrev pub ResumeEnds : FileState → FileState → Option (List ℕ) → Option (List ℕ) → Exit → Type 0
 ResumeEnds old new written after exit =
-    IsNotOpened old new written after exit
+    EndsOpenFailed old new written after exit
     ⊎ IsRestKept old new × Resumes (FromOpened old new) new written after exit

@@ -9,7 +9,7 @@ use Rattle.office_wire.specs.Connections.{Turns}
 use Rattle.office_commands.specs.declared.exit.Exit.{Exit}
 use Rattle.office_commands.specs.declared.exit.Exit.TheVariants as how
 use Rattle.office_commands.specs.ExitStatuses.{exit_of_service}
-use Rattle.office_commands.specs.Opening.{FromOpened, IsNotOpened}
+use Rattle.office_commands.specs.Opening.{EndsOpenFailed, FromOpened}
 use Rattle.office_commands.specs.Running.{listening_line}
 
 -- a desk was opened over a connection, at the state with which the office was opened
@@ -30,6 +30,6 @@ ServesAt g port count old new written after exit =
 abbrev pub ServiceEnds : {S : Type 0} → Ghosts S → ℕ → ℕ → Held S → Held S → Option (List ℕ) → Option (List ℕ) → Exit
     → Type 0
 ServiceEnds {S} g port count old new written after exit =
-    IsNotOpened (state g old) (state g new) written after exit
+    EndsOpenFailed (state g old) (state g new) written after exit
     ⊎ ((first last : DeskState S) × IsDeskOf g old first × ServesAt g port count first last written after exit
     × (new ≡ last.held))

@@ -2,7 +2,7 @@
 use Rattle.std.specs.Prelude.{◌≡◌, ◌==◌, ◌⊎◌, ◌&&◌, ◌||◌, Bool, if◌then◌else◌, ℕ, ℤ, List, [], ◌∷◌, length, codes, Option, Some, None, Result, Ok, MatchResult, ok_or}
 use Rattle.std.specs.Str.{bytes_eq}
 use Rattle.office_days.specs.Texts.{day_named}
-use Rattle.office_base.specs.ThingNumbers.{thing_number}
+use Rattle.office_base.specs.EntityNumbers.{entity_number}
 use Rattle.office_base.specs.declared.refusal.Refusal.{Refusal}
 use Rattle.office_base.specs.declared.refusal.Refusal.TheVariants.{BadText}
 use Rattle.office_records.specs.Codes.{code_named}
@@ -76,7 +76,7 @@ parsed_row day row =
     made (addition day)
     (both
     (both (both (words_field row.ref_text) (words_field row.title))
-    (both (day_field row.originated) (thing_number row.aggregation)))
+    (both (day_field row.originated) (entity_number row.aggregation)))
     (both (both (code_field row.class) (code_field row.schedule)) (content_of (content_named row.content))))
 
 -- why no act was read of a row: it is refused, or memory ran out

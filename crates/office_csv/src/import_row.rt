@@ -1,10 +1,10 @@
 //! A row of an import as the act that adds its record.
 ghost use Rattle.std.specs.Prelude.{◌≡◌};
-ghost use Rattle.office_base.specs.ThingNumbers.{thing_number};
+ghost use Rattle.office_base.specs.EntityNumbers.{entity_number};
 ghost use Rattle.office_rules.specs.Parts.{IsReadAs};
 ghost use Rattle.office_csv.specs.ImportRows.{IsRowRead, addition, code_field, day_field, is_first_column, is_header, named};
 
-use office_base::{Refusal, read_thing_number};
+use office_base::{Refusal, read_entity_number};
 use office_days::Day;
 use office_records::{AggNo, Code, Text};
 use office_rules::{Act, Content, ReadFault, as_part, both, read_code, read_content, read_words};
@@ -54,9 +54,9 @@ fn day_of(field: &str) -> Result<Day, ReadFault>
 
 /// The number of an aggregation that a field is.
 fn number_of(field: &str) -> Result<AggNo, ReadFault>
-    ensures { IsReadAs (thing_number field.now) result }
+    ensures { IsReadAs (entity_number field.now) result }
 {
-    let number = read_thing_number(field)?;
+    let number = read_entity_number(field)?;
     Ok(number)
 }
 

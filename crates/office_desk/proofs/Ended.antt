@@ -29,10 +29,10 @@ IsOnTheWay = (s : State) (run n : ℕ) → open_run s.office ≡ Some run → Is
 abbrev pub Closes : Type 0
 Closes = (s t : State) (run : ℕ) → open_run s.office ≡ Some run → IsMidway s run t → open_run t.office ≡ None → t ≡ whole s run
 
-module _ (reported : AreFatesReported) {S : Type 0} (g : Ghosts S) (s : State) (acts : List Act) (At : Type 0) where
+module _ (reported : AreFatesReported) {S : Type 0} (g : Ghosts S) (s : State) (acts : List Act) (Pre : Type 0) where
   -- no act was begun, for lack of memory
-  pub none_begun : {T : Type 0} (given found : List Answer) (desk : DeskState S) → AreWellFormed acts → found ≡ given → desk.is_poisoned ≡ false → s.office ≡ desk.office → (At → IsAt g s desk)
-      → Performed {T = T} g s acts given found (Err fault.Memory) desk At
+  pub none_begun : {T : Type 0} (given found : List Answer) (desk : DeskState S) → AreWellFormed acts → found ≡ given → desk.is_poisoned ≡ false → s.office ≡ desk.office → (Pre → IsAt g s desk)
+      → Performed {T = T} g s acts given found (Err fault.Memory) desk Pre
   none_begun given found desk formed silent is_open same at = record {
     formed = formed;
     ends = record {
@@ -46,8 +46,8 @@ module _ (reported : AreFatesReported) {S : Type 0} (g : Ghosts S) (s : State) (
     midway = λ begun run all is_run m a. leaves_representing g begun s run desk m (at a);
   }
 
-  pub performed : {T : Type 0} → GoesOn → (result : Result T Fault) (given found : List Answer) (old new : DeskState S) → AreWellFormed acts → (At → IsAt g s old) → EndActs g s acts given found result new At
-      → Performed g s acts given found result new At
+  pub performed : {T : Type 0} → GoesOn → (result : Result T Fault) (given found : List Answer) (old new : DeskState S) → AreWellFormed acts → (Pre → IsAt g s old) → EndActs g s acts given found result new Pre
+      → Performed g s acts given found result new Pre
   performed on (Ok x) given found old new formed at it = record {
     formed = formed;
     ends = it;
@@ -66,17 +66,17 @@ module _ (reported : AreFatesReported) {S : Type 0} (g : Ghosts S) (s : State) (
       }
 
 -- what is so of one act is so of the list of it alone
-pub one_answered : {S : Type 0} (g : Ghosts S) (s : State) (a : Act) (At : Type 0) (result : Result Answer Fault) (old new : DeskState S) → IsWellFormedAct a → s.office ≡ old.office → EndAct g s a result old new At → IsActAnswered s a result old new
-one_answered g s a At (Ok answer) old new formed same it = record { formed = formed; answered = it.answered; leads = (it.office, it.is_open); memory = λ is. absurd cc }
-one_answered g s a At (Err f) old new formed same it = record {
+pub one_answered : {S : Type 0} (g : Ghosts S) (s : State) (a : Act) (Pre : Type 0) (result : Result Answer Fault) (old new : DeskState S) → IsWellFormedAct a → s.office ≡ old.office → EndAct g s a result old new Pre → IsActAnswered s a result old new
+one_answered g s a Pre (Ok answer) old new formed same it = record { formed = formed; answered = it.answered; leads = (it.office, it.is_open); memory = λ is. absurd cc }
+one_answered g s a Pre (Err f) old new formed same it = record {
   formed = formed;
   answered = tt;
   leads = subst (λ (o : Office). StopsAt o f new) (sym same) it.stops;
   memory = λ is. it.memory (let why : f ≡ fault.Memory = cc in why);
 }
 
-module _ (reported : AreFatesReported) (on : GoesOn) {S : Type 0} (g : Ghosts S) (s : State) (a : Act) (At : Type 0) where
-  pub one_came : (result : Result Answer Fault) (old new : DeskState S) → IsWellFormedAct a → IsAt g s old → EndAct g s a result old new At → At → ActsCameTo s (a ∷ []) (act_outcome result) (state g new.held)
+module _ (reported : AreFatesReported) (on : GoesOn) {S : Type 0} (g : Ghosts S) (s : State) (a : Act) (Pre : Type 0) where
+  pub one_came : (result : Result Answer Fault) (old new : DeskState S) → IsWellFormedAct a → IsAt g s old → EndAct g s a result old new Pre → Pre → ActsCameTo s (a ∷ []) (act_outcome result) (state g new.held)
   one_came (Ok answer) old new formed at it here =
       let r : Result Answer Fault = Ok answer in
       let there = it.represents here in
@@ -101,12 +101,12 @@ module _ (reported : AreFatesReported) (on : GoesOn) {S : Type 0} (g : Ghosts S)
         midway = λ begun run is is_run m. midway_left g r begun s run (a ∷ []) new on is is_run m tt (0, it.left here);
       }
 
-module _ (on : GoesOn) (closes : Closes) {S : Type 0} (g : Ghosts S) (s : State) (old new : DeskState S) (At : Type 0) where
+module _ (on : GoesOn) (closes : Closes) {S : Type 0} (g : Ghosts S) (s : State) (old new : DeskState S) (Pre : Type 0) where
   -- where steps ended with no run open, the run is whole
-  steps_whole : (answer : Answer) (it : AreStepsDone g s answer old new At) (begun : State) (run : ℕ) → open_run begun.office ≡ Some run → IsMidway begun run s → after_steps s it.count ≡ whole begun run
+  steps_whole : (answer : Answer) (it : AreStepsDone g s answer old new Pre) (begun : State) (run : ℕ) → open_run begun.office ≡ Some run → IsMidway begun run s → after_steps s it.count ≡ whole begun run
   steps_whole answer it begun run is m = closes begun (after_steps s it.count) run is (midway_steps on it.count begun s run is m) it.ended
 
-  pub run_answered : (result : Result Answer Fault) → s.office ≡ old.office → EndSteps g s result old new At → MatchResult result (λ answer. IsResumed s answer old new) (λ f. AreStepsStopped g s f old new At)
+  pub run_answered : (result : Result Answer Fault) → s.office ≡ old.office → EndSteps g s result old new Pre → MatchResult result (λ answer. IsResumed s answer old new) (λ f. AreStepsStopped g s f old new Pre)
   run_answered (Ok answer) same it = record {
     answered = it.answered;
     is_open = it.is_open;
@@ -115,9 +115,9 @@ module _ (on : GoesOn) (closes : Closes) {S : Type 0} (g : Ghosts S) (s : State)
   }
   run_answered (Err f) same it = it
 
-  module _ (reported : AreFatesReported) (way : IsOnTheWay) (same : s.office ≡ old.office) (at : IsAt g s old) (here : At) where
+  module _ (reported : AreFatesReported) (way : IsOnTheWay) (same : s.office ≡ old.office) (at : IsAt g s old) (here : Pre) where
     -- steps ended with no run open, by the run that was open before
-    run_ended : (answer : Answer) (o : Option ℕ) → open_run old.office ≡ o → AreStepsDone g s answer old new At → RunCameTo g s (run_outcome (Ok answer) o) new
+    run_ended : (answer : Answer) (o : Option ℕ) → open_run old.office ≡ o → AreStepsDone g s answer old new Pre → RunCameTo g s (run_outcome (Ok answer) o) new
     run_ended answer (Some run) is it =
         let r : Result Answer Fault = Ok answer in
         let open_in : open_run s.office ≡ Some run = ap open_run same ∙ is in
@@ -146,7 +146,7 @@ module _ (on : GoesOn) (closes : Closes) {S : Type 0} (g : Ghosts S) (s : State)
           fates = fates_resumed reported g s new r old at (it.count, it.ended, there) tt;
         }
 
-    pub run_came : (result : Result Answer Fault) → EndSteps g s result old new At → RunCameTo g s (run_outcome result (open_run old.office)) new
+    pub run_came : (result : Result Answer Fault) → EndSteps g s result old new Pre → RunCameTo g s (run_outcome result (open_run old.office)) new
     run_came (Ok answer) it = run_ended answer (open_run old.office) refl it
     run_came (Err f) it =
         let r : Result Answer Fault = Err f in

@@ -1,5 +1,5 @@
 pub mod AllFates
-pub mod BroughtUp
+pub mod MigratedDesks
 pub mod DecidedSteps
 pub mod Found
 pub mod Prefixes

@@ -27,9 +27,9 @@ counted : (s : State) (acts : List Act) (given found : List Answer) (n : ℕ) �
 counted s acts given found n within is = sym (ap length (follows given found _ is) ∙ length-answers (take n acts) s ∙ length-take-le n acts within)
 
 module _ {S : Type 0} (g : Ghosts S) (s : State) (acts : List Act) (given found : List Answer) where
-  pub answered_by : (result : Result (Unit {0}) Fault) (new : DeskState S) (At : Type 0) → Performed g s acts given found result new At → AreAnswered s acts (acts_outcome result given found) given found new
-  answered_by (Ok x) new At it = record { formed = it.formed; fits = tt; added = it.ends.answered; leads = (it.ends.office, it.ends.is_open) }
-  answered_by (Err f) new At it =
+  pub answered_by : (result : Result (Unit {0}) Fault) (new : DeskState S) (Pre : Type 0) → Performed g s acts given found result new Pre → AreAnswered s acts (acts_outcome result given found) given found new
+  answered_by (Ok x) new Pre it = record { formed = it.formed; fits = tt; added = it.ends.answered; leads = (it.ends.office, it.ends.is_open) }
+  answered_by (Err f) new Pre it =
       let n = it.ends.count in
       let prefix = it.ends.prefix in
       let same : n ≡ length (drop (length given) found) = counted s acts given found n prefix.within prefix.answered in
@@ -40,12 +40,12 @@ module _ {S : Type 0} (g : Ghosts S) (s : State) (acts : List Act) (given found 
         leads = subst (λ (k : ℕ). StopsAt (after s (take k acts)).office f new) same it.ends.stops;
       }
 
-  pub came_to : (result : Result (Unit {0}) Fault) (new : DeskState S) (At : Type 0) → Performed g s acts given found result new At → At → ActsCameTo s acts (acts_outcome result given found) (state g new.held)
-  came_to (Ok x) new At it at =
+  pub came_to : (result : Result (Unit {0}) Fault) (new : DeskState S) (Pre : Type 0) → Performed g s acts given found result new Pre → Pre → ActsCameTo s acts (acts_outcome result given found) (state g new.held)
+  came_to (Ok x) new Pre it at =
       let there = it.ends.represents at in
       record { formed = it.formed; fits = tt; answered = follows given found _ it.ends.answered; leaves = record { sound = there.sound; rows = there.rows }; offices = it.offices at; fates = it.fates at; midway = λ begun run all is_run m. it.midway begun run all is_run m at }
-  came_to (Err f) new At it at =
-      let answered = answered_by (Err f) new At it in
+  came_to (Err f) new Pre it at =
+      let answered = answered_by (Err f) new Pre it in
       record {
         formed = it.formed;
         fits = answered.fits;

@@ -66,7 +66,7 @@ leaves_reopen g s next f done d is held represents =
 
 -- acts so far, from one desk to another
 abbrev pub CalledPrefix : {S : Type 0} (g : Ghosts S) (old new : DeskState S) (acts : List Act) (given found : List Answer) → Type 0
-CalledPrefix g old new acts given found = Called g old new (λ s At. AreDone g s acts given found new At)
+CalledPrefix g old new acts given found = Called g old new (λ s Pre. AreDone g s acts given found new Pre)
 
 module _ (acts : List Act) (i : ℕ) (a : Act) (within : i < length acts) (is : a ≡ get_or acts i a) {S : Type 0} (g : Ghosts S) (old mid : DeskState S) (given before : List Answer)
     (so_far : CalledPrefix g old mid (take i acts) given before) where
@@ -78,7 +78,7 @@ module _ (acts : List Act) (i : ℕ) (a : Act) (within : i < length acts) (is : 
       rest_then g (after s (take i acts)) old mid new represents (so_far.rest s (early clean) at) (next clean represents)
 
   -- another act is done and reported
-  pub one_more : (new : DeskState S) (answer : Answer) (found : List Answer) → Called g mid new (λ s At. IsDone g s a answer new At) → found ≡ before ++ answer ∷ []
+  pub one_more : (new : DeskState S) (answer : Answer) (found : List Answer) → Called g mid new (λ s Pre. IsDone g s a answer new Pre) → found ≡ before ++ answer ∷ []
       → CalledPrefix g old new (take (i + 1) acts) given found
   one_more new answer found one reported = record {
     clean = λ clean. so_far.clean (one.clean clean);
@@ -96,7 +96,7 @@ module _ (acts : List Act) (i : ℕ) (a : Act) (within : i < length acts) (is : 
   }
 
   -- it is stopped by a fault
-  pub stopped_next : (new : DeskState S) (f : Fault) → Called g mid new (λ s At. IsFaulted g s (step s a).1 f mid new At) → Called g old new (λ s At. AreStopped g s acts given before f new At)
+  pub stopped_next : (new : DeskState S) (f : Fault) → Called g mid new (λ s Pre. IsFaulted g s (step s a).1 f mid new Pre) → Called g old new (λ s Pre. AreStopped g s acts given before f new Pre)
   stopped_next new f one = record {
     clean = λ clean. so_far.clean (one.clean clean);
     shield = λ shielded. one.shield (so_far.shield shielded);
@@ -116,8 +116,8 @@ module _ (acts : List Act) (i : ℕ) (a : Act) (within : i < length acts) (is : 
   }
 
   -- it is done, and finds no room for its answer
-  pub unreported_next : (done new : DeskState S) (answer : Answer) (found : List Answer) (f : Fault) → Called g mid done (λ s At. IsDone g s a answer done At) → new.held ≡ done.held → found ≡ before → IsPoisoned f new
-      → Called g old new (λ s At. AreStopped g s acts given found f new At)
+  pub unreported_next : (done new : DeskState S) (answer : Answer) (found : List Answer) (f : Fault) → Called g mid done (λ s Pre. IsDone g s a answer done Pre) → new.held ≡ done.held → found ≡ before → IsPoisoned f new
+      → Called g old new (λ s Pre. AreStopped g s acts given found f new Pre)
   unreported_next done new answer found f one held silent gone =
       let clean_done : HasCleanDisk (state g new.held) → HasCleanDisk (state g done.held) = subst (λ it. HasCleanDisk (state g it)) held in
       record {

@@ -20,16 +20,16 @@ use Rattle.office_desk.proofs.LeftRest.{rest_then}
 use Rattle.office_desk.proofs.RunSteps.{IsLast, IsTaken, after_more, last_in, taken_in}
 
 -- so many steps were taken
-pub record AreTaken {S : Type 0} (g : Ghosts S) (s : State) (new : DeskState S) (At : Type 0) : Type 0 where
+pub record AreTaken {S : Type 0} (g : Ghosts S) (s : State) (new : DeskState S) (Pre : Type 0) : Type 0 where
   pub count : ℕ
   pub office : new.office ≡ (after_steps s count).office
-  pub represents : At → IsAt g (after_steps s count) new
+  pub represents : Pre → IsAt g (after_steps s count) new
 
 abbrev pub CalledSteps : {S : Type 0} (g : Ghosts S) (old new : DeskState S) → Type 0
-CalledSteps g old new = Called g old new (λ s At. AreTaken g s new At)
+CalledSteps g old new = Called g old new (λ s Pre. AreTaken g s new Pre)
 
 abbrev pub CalledStep : {S : Type 0} (g : Ghosts S) (old new : DeskState S) (answer : Answer) → Type 0
-CalledStep g old new answer = Called g old new (λ s At. IsDone g s act.RunStep answer new At)
+CalledStep g old new answer = Called g old new (λ s Pre. IsDone g s act.RunStep answer new Pre)
 
 -- what the next step leaves of the rest of the file
 rest_taken : {S : Type 0} (g : Ghosts S) (old mid new : DeskState S) → CalledSteps g old mid → (HasCleanDisk (state g new.held) → HasCleanDisk (state g mid.held)) → (s : State) → HasCleanDisk (state g new.held) → IsAt g s old
@@ -65,7 +65,7 @@ module _ {S : Type 0} (g : Ghosts S) (mid new : DeskState S) (answer : Answer) (
   }
 
   pub steps_done : (old : DeskState S) → CalledSteps g old mid → open_run mid.office ≡ open_run old.office → ((r : ℕ) (outcome : Outcome) → answer ≢ Step r outcome)
-      → Called g old new (λ s At. AreStepsDone g s answer old new At)
+      → Called g old new (λ s Pre. AreStepsDone g s answer old new Pre)
   steps_done old so_far same_run none =
       let all = one_taken old so_far in
       let last = is_last none in
@@ -86,7 +86,7 @@ module _ {S : Type 0} (g : Ghosts S) (mid new : DeskState S) (answer : Answer) (
       }
 
 pub steps_stopped : {S : Type 0} (g : Ghosts S) (old mid new : DeskState S) (f : Fault) → mid.is_poisoned ≡ false → CalledSteps g old mid → (open_run old.office ≡ None → mid ≡ old)
-    → Called g mid new (λ s At. IsFaulted g s (step s act.RunStep).1 f mid new At) → Called g old new (λ s At. AreStepsStopped g s f old new At)
+    → Called g mid new (λ s Pre. IsFaulted g s (step s act.RunStep).1 f mid new Pre) → Called g old new (λ s Pre. AreStepsStopped g s f old new Pre)
 steps_stopped g old mid new f still so_far first one = record {
   clean = λ clean. so_far.clean (one.clean clean);
   shield = λ shielded. one.shield (so_far.shield shielded);

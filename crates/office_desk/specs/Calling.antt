@@ -29,11 +29,11 @@ LeavesRestOf g old new = Leaves (SparesRest (state g old.held).now) (state g new
 abbrev pub WasAt : {S : Type 0} (g : Ghosts S) (s : State) (old new : DeskState S) → Type 0
 WasAt g s old new = HasCleanDisk (state g new.held) × IsAt g s old
 
--- by a desk that is open: what was done from each state with its office, where `At` is that it was there
-pub record Called {S : Type 0} (g : Ghosts S) (old new : DeskState S) (Did : State → Type 0 → Type 0) : Type 0 where
+-- by a desk that is open: what was done from each state with its office, where `Pre` is that it was there
+pub record Called {S : Type 0} (g : Ghosts S) (old new : DeskState S) (Post : State → Type 0 → Type 0) : Type 0 where
   pub clean : HasCleanDisk (state g new.held) → HasCleanDisk (state g old.held)
   pub shield : (state g old.held).IsShielded → (state g new.held).IsShielded
-  pub did : (s : State) → old.is_poisoned ≡ false → s.office ≡ old.office → Did s (WasAt g s old new)
+  pub did : (s : State) → old.is_poisoned ≡ false → s.office ≡ old.office → Post s (WasAt g s old new)
   pub rest : (s : State) → HasCleanDisk (state g new.held) → IsAt g s old → LeavesRestOf g old new
 
 -- a change was done in memory, and is answered
@@ -49,93 +49,93 @@ pub record IsPoisoned {S : Type 0} (f : Fault) (new : DeskState S) : Type 0 wher
 
 -- a change was saved and made
 pub record IsSaved {S : Type 0} (g : Ghosts S) (s : State) (change : Change) (answer : Answer) (old new : DeskState S)
-    (At : Type 0) : Type 0 where
+    (Pre : Type 0) : Type 0 where
   pub made : IsMade change answer old new
-  pub rows : At → HoldsRows (rows_of (all_writes change.writes.items s)) (state g new.held)
+  pub rows : Pre → HoldsRows (rows_of (all_writes change.writes.items s)) (state g new.held)
 
 -- a fault on the way from a state to the next
-pub record IsFaulted {S : Type 0} (g : Ghosts S) (s next : State) (f : Fault) (old new : DeskState S) (At : Type 0) :
+pub record IsFaulted {S : Type 0} (g : Ghosts S) (s next : State) (f : Fault) (old new : DeskState S) (Pre : Type 0) :
     Type 0 where
   pub memory : f ≡ fault.Memory → new ≡ old
   pub stops : StopsAt old.office f new
-  pub left : At → StopsLeaving s next f (state g new.held)
+  pub left : Pre → StopsLeaving s next f (state g new.held)
 
 -- how the saving and making of a change ends
 abbrev pub EndChange : {S : Type 0} (g : Ghosts S) (s : State) (change : Change) (result : Result Answer Fault)
-    (old new : DeskState S) (At : Type 0) → Type 0
-EndChange g s change result old new At =
-    MatchResult result (λ answer. IsSaved g s change answer old new At)
-    (λ f. IsFaulted g s (all_writes change.writes.items s) f old new At)
+    (old new : DeskState S) (Pre : Type 0) → Type 0
+EndChange g s change result old new Pre =
+    MatchResult result (λ answer. IsSaved g s change answer old new Pre)
+    (λ f. IsFaulted g s (all_writes change.writes.items s) f old new Pre)
 
 -- an act was done, and is answered
-pub record IsDone {S : Type 0} (g : Ghosts S) (s : State) (a : Act) (answer : Answer) (new : DeskState S) (At : Type 0)
+pub record IsDone {S : Type 0} (g : Ghosts S) (s : State) (a : Act) (answer : Answer) (new : DeskState S) (Pre : Type 0)
     : Type 0 where
   pub answered : answer ≡ (step s a).0
   pub office : new.office ≡ (step s a).1.office
   pub is_open : new.is_poisoned ≡ false
-  pub represents : At → IsAt g (step s a).1 new
+  pub represents : Pre → IsAt g (step s a).1 new
 
 -- how an act ends
 abbrev pub EndAct : {S : Type 0} (g : Ghosts S) (s : State) (a : Act) (result : Result Answer Fault)
-    (old new : DeskState S) (At : Type 0) → Type 0
-EndAct g s a result old new At =
-    MatchResult result (λ answer. IsDone g s a answer new At) (λ f. IsFaulted g s (step s a).1 f old new At)
+    (old new : DeskState S) (Pre : Type 0) → Type 0
+EndAct g s a result old new Pre =
+    MatchResult result (λ answer. IsDone g s a answer new Pre) (λ f. IsFaulted g s (step s a).1 f old new Pre)
 
 -- acts were done, and are answered behind those that were given
 pub record AreDone {S : Type 0} (g : Ghosts S) (s : State) (acts : List Act) (given found : List Answer)
-    (new : DeskState S) (At : Type 0) : Type 0 where
+    (new : DeskState S) (Pre : Type 0) : Type 0 where
   pub answered : found ≡ given ++ answers s acts
   pub office : new.office ≡ (after s acts).office
   pub is_open : new.is_poisoned ≡ false
-  pub represents : At → IsAt g (after s acts) new
+  pub represents : Pre → IsAt g (after s acts) new
 
 -- acts were stopped by a fault after so many
 pub record AreStopped {S : Type 0} (g : Ghosts S) (s : State) (acts : List Act) (given found : List Answer) (f : Fault)
-    (new : DeskState S) (At : Type 0) : Type 0 where
+    (new : DeskState S) (Pre : Type 0) : Type 0 where
   pub count : ℕ
   pub prefix : IsPrefixAnswered s acts given found f count
   pub stops : StopsAt (after s (take count acts)).office f new
-  pub left : At → StopsLeaving (after s (take count acts)) (after s (take (count + 1) acts)) f (state g new.held)
+  pub left : Pre → StopsLeaving (after s (take count acts)) (after s (take (count + 1) acts)) f (state g new.held)
 
 -- how acts end
 abbrev pub EndActs : {S T : Type 0} (g : Ghosts S) (s : State) (acts : List Act) (given found : List Answer)
-    (result : Result T Fault) (new : DeskState S) (At : Type 0) → Type 0
-EndActs g s acts given found result new At =
-    MatchResult result (λ _. AreDone g s acts given found new At) (λ f. AreStopped g s acts given found f new At)
+    (result : Result T Fault) (new : DeskState S) (Pre : Type 0) → Type 0
+EndActs g s acts given found result new Pre =
+    MatchResult result (λ _. AreDone g s acts given found new Pre) (λ f. AreStopped g s acts given found f new Pre)
 
 -- and what a crash leaves at each end
 pub record Performed {S T : Type 0} (g : Ghosts S) (s : State) (acts : List Act) (given found : List Answer)
-    (result : Result T Fault) (new : DeskState S) (At : Type 0) : Type 0 where
+    (result : Result T Fault) (new : DeskState S) (Pre : Type 0) : Type 0 where
   pub formed : AreWellFormed acts
-  pub ends : EndActs g s acts given found result new At
-  pub offices : At → LeavesOffices (state g new.held)
-  pub fates : At → LeavesFates s acts (state g new.held)
+  pub ends : EndActs g s acts given found result new Pre
+  pub offices : Pre → LeavesOffices (state g new.held)
+  pub fates : Pre → LeavesFates s acts (state g new.held)
   pub midway : (begun : State) (run : ℕ) → AreRunSteps acts → open_run begun.office ≡ Some run → IsMidway begun run s
-      → At → LeavesMidway begun run (state g new.held)
+      → Pre → LeavesMidway begun run (state g new.held)
 
 -- steps were taken until no run was open
-pub record AreStepsDone {S : Type 0} (g : Ghosts S) (s : State) (answer : Answer) (old new : DeskState S) (At : Type 0)
+pub record AreStepsDone {S : Type 0} (g : Ghosts S) (s : State) (answer : Answer) (old new : DeskState S) (Pre : Type 0)
     : Type 0 where
   pub answered : answer ≡ resumed_answer (open_run old.office)
   pub is_open : new.is_poisoned ≡ false
   pub count : ℕ
   pub ended : open_run (after_steps s count).office ≡ None
   pub office : new.office ≡ (after_steps s count).office
-  pub represents : At → IsAt g (after_steps s count) new
+  pub represents : Pre → IsAt g (after_steps s count) new
 
 -- steps were stopped by a fault after so many
-pub record AreStepsStopped {S : Type 0} (g : Ghosts S) (s : State) (f : Fault) (old new : DeskState S) (At : Type 0) :
+pub record AreStepsStopped {S : Type 0} (g : Ghosts S) (s : State) (f : Fault) (old new : DeskState S) (Pre : Type 0) :
     Type 0 where
   pub memory : open_run old.office ≡ None → f ≡ fault.Memory → new ≡ old
   pub count : ℕ
   pub stops : StopsAt (after_steps s count).office f new
-  pub left : At → StopsLeaving (after_steps s count) (after_steps s (suc count)) f (state g new.held)
+  pub left : Pre → StopsLeaving (after_steps s count) (after_steps s (suc count)) f (state g new.held)
 
 -- how steps end
 abbrev pub EndSteps : {S : Type 0} (g : Ghosts S) (s : State) (result : Result Answer Fault) (old new : DeskState S)
-    (At : Type 0) → Type 0
-EndSteps g s result old new At =
-    MatchResult result (λ answer. AreStepsDone g s answer old new At) (λ f. AreStepsStopped g s f old new At)
+    (Pre : Type 0) → Type 0
+EndSteps g s result old new Pre =
+    MatchResult result (λ answer. AreStepsDone g s answer old new Pre) (λ f. AreStepsStopped g s f old new Pre)
 
 -- something is read of the office in memory
 pub record Reads {S X : Type 0} (desk : DeskState S) (Is : X → Type 0) (result : Result X Fault) : Type 0 where

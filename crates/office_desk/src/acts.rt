@@ -31,7 +31,7 @@ impl<S: Alter> Desk<S> {
         requires open { self.old.is_poisoned ≡ false }
         ensures formed { IsWellFormedAct act.now }
         ensures called { Called S.Store self.old self.new
-            (λ s At. EndAct S.Store s act.now result self.old self.new At) }
+            (λ s Pre. EndAct S.Store s act.now result self.old self.new Pre) }
     {
         match self.machine.decide(act) {
             Ok(Decision::Stay(answer)) => Ok(answer),
@@ -45,7 +45,7 @@ impl<S: Alter> Desk<S> {
         requires open { self.old.is_poisoned ≡ false }
         requires feasible { CanBeMade self.old.office change }
         ensures { Called S.Store self.old self.new
-            (λ s At. EndChange S.Store s change result self.old self.new At) }
+            (λ s Pre. EndChange S.Store s change result self.old self.new Pre) }
     {
         match self.store.save(self.alloc, &change) {
             Ok(()) => self.finish(change),
@@ -91,8 +91,8 @@ impl<S: Alter> Desk<S> {
     fn perform_open(&mut self, acts: &[Act], answers: &mut Vec<Answer>) -> Result<(), Fault>
         requires open { self.old.is_poisoned ≡ false }
         ensures { Called S.Store self.old self.new
-            (λ s At. EndActs S.Store s acts.now answers.old.items answers.new.items result self.new
-            At) }
+            (λ s Pre. EndActs S.Store s acts.now answers.old.items answers.new.items result self.new
+            Pre) }
     {
         for act in acts {
             let answer = self.perform_one(act)?;

@@ -18,7 +18,7 @@ impl<S: Alter> Desk<S> {
     fn take_steps(&mut self) -> Result<Answer, Fault>
         requires open { self.old.is_poisoned ≡ false }
         ensures { Called S.Store self.old self.new
-            (λ s At. EndSteps S.Store s result self.old self.new At) }
+            (λ s Pre. EndSteps S.Store s result self.old self.new Pre) }
     {
         'steps: loop {
             match self.perform_one(&Act::RunStep)? {

@@ -2,7 +2,7 @@
 use Rattle.std.specs.Prelude.{ℕ, ◌==◌, Bool, false, List, [], ◌∷◌, length, nat_lt, Option, None, if◌then◌else◌}
 use Rattle.std.specs.Result.{result_ok}
 use Rattle.office_base.specs.Numerals.{number_named}
-use Rattle.office_base.specs.ThingNumbers.{thing_number}
+use Rattle.office_base.specs.EntityNumbers.{entity_number}
 
 -- the length that a field value says: 1 to 19 ASCII digits. Source: RFC 9110 section 8.6; the greatest number of digits
 -- is own
@@ -16,4 +16,4 @@ begins_with_zero (byte ∷ rest) = byte == 48
 
 -- the number that a segment of a path names: that of a thing, without leading zeros. Source: own
 abbrev pub segment_number : List ℕ → Option ℕ
-segment_number segment = if begins_with_zero segment then None else result_ok (thing_number segment)
+segment_number segment = if begins_with_zero segment then None else result_ok (entity_number segment)

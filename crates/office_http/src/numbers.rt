@@ -4,7 +4,7 @@ ghost use Rattle.std.specs.Option.{option_map};
 ghost use Rattle.office_base.specs.Numerals.{number_named};
 ghost use Rattle.office_http.specs.Numbers.{begins_with_zero, content_length, segment_number};
 
-use office_base::{read_numeral, read_thing_number};
+use office_base::{read_entity_number, read_numeral};
 
 /// The number that the bytes write as digits; one above `u64::MAX` counts as `u64::MAX`.
 fn numeral_in(bytes: &[u8]) -> Option<u64>
@@ -41,6 +41,6 @@ pub(crate) fn segment_number(segment: &str) -> Option<u32>
     if begins_with_zero(segment) {
         None
     } else {
-        read_thing_number(segment).ok()
+        read_entity_number(segment).ok()
     }
 }

@@ -15,8 +15,8 @@ use Rattle.office_rules.specs.State.{State, empty_state}
 use Rattle.office_rules.specs.declared.act.Act.{Act}
 use Rattle.office_rules.specs.declared.answer.Answer.{Answer}
 use Rattle.office_rules.proofs.OpenRun.{closed_is_closed, length-runs, opened}
-use Rattle.office_sql.specs.declared.editions.Edition.{Edition}
-use Rattle.office_sql.specs.declared.editions.Edition.TheVariants as edition
+use Rattle.office_sql.specs.declared.schema_versions.SchemaVersion.{SchemaVersion}
+use Rattle.office_sql.specs.declared.schema_versions.SchemaVersion.TheVariants as schema_version
 use Rattle.office_sql.specs.Office.{IsAtRestOver, IsOfficeIn}
 use Rattle.office_store.specs.RepresentsRows.{HoldsRows, RepresentsRows, RepresentsRowsIn}
 use Rattle.office_store.specs.declared.fault.Fault.{Fault}
@@ -24,7 +24,7 @@ use Rattle.office_store.specs.declared.fault.Fault.TheVariants as fault
 use Rattle.office_desk.specs.Desk.{DeskState}
 use Rattle.office_desk.specs.Headline.{AreWellFormed}
 use Rattle.office_desk.specs.Leaving.{IsAt, StopsLeaving}
-use Rattle.office_desk.specs.Opening.{Finds, LeavesTables, LeavesUnopened}
+use Rattle.office_desk.specs.Opening.{Finds, LeavesTables, OpenFailedLeaves}
 use Rattle.office_desk.specs.Outcomes.{ActsCameTo, FromEach, acts_outcome}
 use Rattle.office_desk.specs.Resuming.{AreRunSteps, resumed_answer}
 use Rattle.office_desk.specs.Resumptions.{IsRunAnswered, RunCameTo, RunOutcome, none_open, run_closed, run_outcome, run_stopped}
@@ -34,7 +34,7 @@ use Rattle.office_life.specs.Tables.{AreTablesAt}
 use Rattle.office_life.specs.declared.reports.StintEnd.TheVariants as end
 
 abbrev pub IsOneDatabase : Type 0
-IsOneDatabase = (ed : Edition) (s u : State) (db : Trees) → IsSound s → IsSound u → RepresentsRowsIn ed (rows_of s) db → RepresentsRowsIn ed (rows_of u) db → s ≡ u
+IsOneDatabase = (ed : SchemaVersion) (s u : State) (db : Trees) → IsSound s → IsSound u → RepresentsRowsIn ed (rows_of s) db → RepresentsRowsIn ed (rows_of u) db → s ≡ u
 
 abbrev pub StaySound : Type 0
 StaySound = (s : State) (a : Act) → IsSound s → IsWellFormedAct a → IsSound (step s a).1
@@ -58,14 +58,14 @@ sound_acts stay [] s sound formed = sound
 sound_acts stay (a ∷ acts) s sound (is, rest) = sound_acts stay acts (step s a).1 (stay s a sound is) rest
 
 -- tables of version 2 that are those of a state
-at_tables : (u : State) → IsSound u → (db : Trees) → IsOfficeIn edition.Two db → RepresentsRows (rows_of u) db → AreTablesAt db u
-at_tables u sound db office rows = inl (record { edition = edition.Two; office = office; sound = sound; rows = rows })
+at_tables : (u : State) → IsSound u → (db : Trees) → IsOfficeIn schema_version.Two db → RepresentsRows (rows_of u) db → AreTablesAt db u
+at_tables u sound db office rows = inl (record { schema_version = schema_version.Two; office = office; sound = sound; rows = rows })
 
 -- and alone
 at_rows : (new : FileState) (u : State) → IsSound u → HoldsRows (rows_of u) new → (db : Trees) → new.may_leave db → AreTablesAt db u
 at_rows new u sound holds db may =
     let is = sym (holds.rest.only db may) in
-    at_tables u sound db (subst (λ (t : Trees). IsOfficeIn edition.Two t) is (new.now.schema, holds.rest.office)) (subst (λ (t : Trees). RepresentsRows (rows_of u) t) is holds.represents)
+    at_tables u sound db (subst (λ (t : Trees). IsOfficeIn schema_version.Two t) is (new.now.schema, holds.rest.office)) (subst (λ (t : Trees). RepresentsRows (rows_of u) t) is holds.represents)
 
 -- ---- acts at a desk
 
@@ -75,7 +75,7 @@ module _ (stay : StaySound) (s : State) (sound : IsSound s) (acts : List Act) wh
 
   -- a fault stopped them after so many
   stopped_at : AreWellFormed acts → (new : FileState) (found : List Answer) (f : Fault) → found ≡ answers s (take (length found) acts)
-      → StopsLeaving (after s (take (length found) acts)) (after s (take (length found + 1) acts)) f new → ((db : Trees) → new.may_leave db → IsOfficeIn edition.Two db) → (db : Trees) → new.may_leave db
+      → StopsLeaving (after s (take (length found) acts)) (after s (take (length found + 1) acts)) f new → ((db : Trees) → new.may_leave db → IsOfficeIn schema_version.Two db) → (db : Trees) → new.may_leave db
       → (done : List Act) × ((found ≡ answers s (take (length found) acts)) × ((done ≡ take (length found) acts) ⊎ (done ≡ take (length found + 1) acts))) × AreTablesAt db (after s done)
   stopped_at formed new found fault.Memory is left offices db may = let n = length found in (take n acts, (is, inl refl), at_rows new _ (sound_at formed n) left db may)
   stopped_at formed new found fault.Store is left offices db may =
@@ -135,7 +135,7 @@ module _ (one : IsOneDatabase) (stay : StaySound) {S : Type 0} (g : Ghosts S) (s
 
     -- they lead to where the desk is
     same_as : (u : State) → IsAt g u new → after s taken.0 ≡ u
-    same_as u desk = one edition.Two (after s taken.0) u db taken.2 desk.sound taken.3 (subst (λ (t : Trees). RepresentsRows (rows_of u) t) (sym (desk.rows.rest.only db may)) desk.rows.represents)
+    same_as u desk = one schema_version.Two (after s taken.0) u db taken.2 desk.sound taken.3 (subst (λ (t : Trees). RepresentsRows (rows_of u) t) (sym (desk.rows.rest.only db may)) desk.rows.represents)
 
   -- and where they were done, no run is open
   none_after : (answer : Answer) (was_open : Option ℕ) (new : DeskState S) (it : RunCameTo g s (run_outcome (Ok answer) was_open) new) (db : Trees) (may : (state g new.held).may_leave db)
@@ -181,27 +181,27 @@ module _ (one : IsOneDatabase) where
   found_at s g conn desk finds (inr (blank, none, is)) = subst (λ (t : State). IsAt g t desk) (sym is) (finds.made blank)
 
   module _ (empty : IsSound empty_state) (s : State) (old : FileState) where
-    at_before : (ed : Edition) → IsSound s → IsAtRestOver ed old → RepresentsRowsIn ed (rows_of s) old.now.trees → (db : Trees) → old.may_leave db → AreTablesAt db s
+    at_before : (ed : SchemaVersion) → IsSound s → IsAtRestOver ed old → RepresentsRowsIn ed (rows_of s) old.now.trees → (db : Trees) → old.may_leave db → AreTablesAt db s
     at_before ed sound rest rows db may =
         let is = sym (rest.only db may) in
         inl (record {
-          edition = ed;
+          schema_version = ed;
           office = subst (λ (t : Trees). IsOfficeIn ed t) is (old.now.schema, rest.office);
           sound = sound;
           rows = subst (λ (t : Trees). RepresentsRowsIn ed (rows_of s) t) is rows;
         })
 
-    unopened_over : (new : FileState) (ed : Edition) → IsSound s → IsAtRestOver ed old → RepresentsRowsIn ed (rows_of s) old.now.trees → LeavesTables ed old new → (db : Trees) → new.may_leave db → AreTablesAt db s
-    unopened_over new edition.One sound rest rows leaves db may = elim (leaves db may) [
-      | inl before ↦ at_before edition.One sound rest rows db before
+    unopened_over : (new : FileState) (ed : SchemaVersion) → IsSound s → IsAtRestOver ed old → RepresentsRowsIn ed (rows_of s) old.now.trees → LeavesTables ed old new → (db : Trees) → new.may_leave db → AreTablesAt db s
+    unopened_over new schema_version.One sound rest rows leaves db may = elim (leaves db may) [
+      | inl before ↦ at_before schema_version.One sound rest rows db before
       | inr next ↦
-          let same : next.0 ≡ s = one edition.One next.0 s old.now.trees next.1.sound sound next.1.rows rows in
+          let same : next.0 ≡ s = one schema_version.One next.0 s old.now.trees next.1.sound sound next.1.rows rows in
           at_tables s sound db next.3 (subst (λ (t : State). RepresentsRows (rows_of t) db) same next.2)
     ]
-    unopened_over new edition.Two sound rest rows leaves db may = at_before edition.Two sound rest rows db (leaves db may)
+    unopened_over new schema_version.Two sound rest rows leaves db may = at_before schema_version.Two sound rest rows db (leaves db may)
 
     -- where none was opened, a crash leaves tables at that state
-    pub unopened_at : (new : FileState) (f : Fault) → RestsAt old s → LeavesUnopened old new f → (db : Trees) → new.may_leave db → AreTablesAt db s
+    pub unopened_at : (new : FileState) (f : Fault) → RestsAt old s → OpenFailedLeaves old new f → (db : Trees) → new.may_leave db → AreTablesAt db s
     unopened_at new f (inl (ed, rest, sound, rows)) leaves db may = unopened_over new ed sound rest rows (leaves.office ed rest).leaves db may
     unopened_at new f (inr (blank, none, is)) leaves db may = elim (leaves.first blank db may) [
       | inl before ↦ inr (subst IsEmpty (sym before) none, is)

@@ -13,8 +13,8 @@ use Rattle.sqlite.specs.Files.{AreFoundIn, HoldsDatabase, IsEmpty}
 use Rattle.sqlite.specs.State.{State as FileState, IsLive, Opens}
 use Rattle.office_rules.specs.Rows.{rows_of}
 use Rattle.office_rules.specs.State.{State, empty_state}
-use Rattle.office_sql.specs.Editions.{version_2}
-use Rattle.office_sql.specs.declared.editions.Edition.{Edition}
+use Rattle.office_sql.specs.SchemaVersions.{version_2}
+use Rattle.office_sql.specs.declared.schema_versions.SchemaVersion.{SchemaVersion}
 use Rattle.office_sql.specs.Office.{HasRoom, IsAtRestOver, IsBlank, IsOfficeIn, IsOfficeOf}
 use Rattle.office_store.specs.RepresentsRows.{RepresentsRowsIn}
 use Rattle.office_life.specs.Standing.{RestsAt, Stage, StandsAt, half_made, stored, unmade}
@@ -49,7 +49,7 @@ module _ (s : FileState) (opened : Opens s) (live : IsLive s) (only : (db : Tree
   left_at_all = subst s.may_leave (sym same_trees) stays
 
   -- over the trees of an office
-  pub rests : (ed : Edition) (trees : Trees) → s.committed.trees ≡ trees → IsOfficeIn ed trees → IsAtRestOver ed s × (s.now.trees ≡ trees)
+  pub rests : (ed : SchemaVersion) (trees : Trees) → s.committed.trees ≡ trees → IsOfficeIn ed trees → IsAtRestOver ed s × (s.now.trees ≡ trees)
   rests ed trees held office =
       let same : s.now.trees ≡ trees = same_trees ∙ held in
       let schema : s.now.schema ≡ office.0 =
@@ -82,8 +82,8 @@ module _ (s : FileState) (opened : Opens s) (live : IsLive s) (only : (db : Tree
 
     office_at : (u : State) (db : Trees) → HoldsDatabase image db → IsOfficeAt db u → RestsAt s u
     office_at u db held at =
-        let rest = rests at.edition db (holds db held) at.office in
-        inl (at.edition, rest.0, at.sound, subst (λ (t : Trees). RepresentsRowsIn at.edition (rows_of u) t) (sym rest.1) at.rows)
+        let rest = rests at.schema_version db (holds db held) at.office in
+        inl (at.schema_version, rest.0, at.sound, subst (λ (t : Trees). RepresentsRowsIn at.schema_version (rows_of u) t) (sym rest.1) at.rows)
 
     -- over files that stand for a state it is at rest there
     pub rests_at : (stage : Stage) (u : State) → StandsAt stage image u → RestsAt s u

@@ -12,7 +12,7 @@ use Rattle.office_rules.specs.Rows.{rows_of}
 use Rattle.office_rules.specs.Sound.{IsSound}
 use Rattle.office_rules.specs.State.{State, empty_state}
 use Rattle.office_sql.specs.Office.{IsAtRestOver, IsBlank}
-use Rattle.office_sql.specs.declared.editions.Edition.{Edition}
+use Rattle.office_sql.specs.declared.schema_versions.SchemaVersion.{SchemaVersion}
 use Rattle.office_store.specs.RepresentsRows.{RepresentsRowsIn}
 use Rattle.office_desk.specs.Desk.{DeskState}
 use Rattle.office_desk.specs.Leaving.{IsAt}
@@ -88,7 +88,7 @@ FindsLed stage Leads old desk =
 -- it is at rest over the tables of an office at this state, or over none, for the empty one
 abbrev pub RestsAt : FileState → State → Type 0
 RestsAt held s =
-    ((ed : Edition) × IsAtRestOver ed held × IsSound s × RepresentsRowsIn ed (rows_of s) held.now.trees)
+    ((ed : SchemaVersion) × IsAtRestOver ed held × IsSound s × RepresentsRowsIn ed (rows_of s) held.now.trees)
     ⊎ (IsBlank held × IsEmpty held.now.trees × (s ≡ empty_state))
 
 -- whatever tables a crash leaves, they are at a state of this kind

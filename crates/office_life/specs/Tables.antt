@@ -10,7 +10,7 @@ use Rattle.office_rules.specs.Rows.{rows_of}
 use Rattle.office_rules.specs.Sound.{IsSound}
 use Rattle.office_rules.specs.State.{State, empty_state}
 use Rattle.office_sql.specs.Office.{IsOfficeIn}
-use Rattle.office_sql.specs.declared.editions.Edition.{Edition}
+use Rattle.office_sql.specs.declared.schema_versions.SchemaVersion.{SchemaVersion}
 use Rattle.office_store.specs.RepresentsRows.{RepresentsRowsIn}
 
 -- the two files hold these tables, and where the file has sums, each page has its sum
@@ -19,10 +19,10 @@ HoldsTables image tables = (size : ℕ) × IsPageSize (stored_size size) × Hold
 
 -- tables of an office, of either version, at this state
 pub record IsOfficeAt (tables : Trees) (u : State) : Type 0 where
-  pub edition : Edition
-  pub office : IsOfficeIn edition tables
+  pub schema_version : SchemaVersion
+  pub office : IsOfficeIn schema_version tables
   pub sound : IsSound u
-  pub rows : RepresentsRowsIn edition (rows_of u) tables
+  pub rows : RepresentsRowsIn schema_version (rows_of u) tables
 
 -- the same, or no table yet: then it is the empty office, which is to be made
 abbrev pub AreTablesAt : Trees → State → Type 0

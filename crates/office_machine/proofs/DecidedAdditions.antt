@@ -30,9 +30,9 @@ use Rattle.office_machine.proofs.Decisions.{refused_step, accepted_change}
 use Rattle.office_machine.proofs.DayWrites.{day_led, days_follow, few_days}
 
 -- the table's answer depends on the tree, the class and the schedule alone
-pub same_addition : (t u : TreeState) (name : List ℕ) (container : ℕ) (class own_class schedule own_schedule : Option (List ℕ)) → t ≡ u → class ≡ own_class → schedule ≡ own_schedule
-    → first_of (conditions_of_add_record t name container class schedule) ≡ first_of (conditions_of_add_record u name container own_class own_schedule)
-same_addition t u name container class own_class schedule own_schedule trees classes schedules = λ i. first_of (conditions_of_add_record (trees i) name container (classes i) (schedules i))
+pub same_addition : (t u : TreeState) (name : List ℕ) (aggregation : ℕ) (class own_class schedule own_schedule : Option (List ℕ)) → t ≡ u → class ≡ own_class → schedule ≡ own_schedule
+    → first_of (conditions_of_add_record t name aggregation class schedule) ≡ first_of (conditions_of_add_record u name aggregation own_class own_schedule)
+same_addition t u name aggregation class own_class schedule own_schedule trees classes schedules = λ i. first_of (conditions_of_add_record (trees i) name aggregation (classes i) (schedules i))
 
 -- a record that was not added before is refused by its table
 pub addition_refused : (s : Office) (day : ℤ) (new : NewRecord) (refusal : Refusal) → same_record s new ≡ None → first_of (refusals_of_add_record s day new) ≡ Some refusal

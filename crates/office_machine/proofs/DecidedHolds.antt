@@ -96,6 +96,6 @@ covering_change s day code target change fits accepted same writes =
     (by_holds.0, FitsHoldLimits-held_on s.holds fits code target by_holds.1) (λ contents. refl)
 
 pub uncovering_change : (s : Office) (day : ℤ) (code : List ℕ) (target : Target) (change : Change) → first_of (refusals_of_hold_off s day code target) ≡ None → Done ≡ change.answer
-    → change.writes.items ≡ row_write.TargetGone code target ∷ day_writes s day → IsChangeTo s (λ contents. step_hold_off (with_contents s contents) day code target) change
+    → change.writes.items ≡ row_write.RemoveTarget code target ∷ day_writes s day → IsChangeTo s (λ contents. step_hold_off (with_contents s contents) day code target) change
 uncovering_change s day code target change accepted same writes =
-    put_change s day (conditions_of_hold_off s.holds code target) (held_off s.holds code target) (row_write.TargetGone code target) change accepted same writes tt (λ contents. refl)
+    put_change s day (conditions_of_hold_off s.holds code target) (held_off s.holds code target) (row_write.RemoveTarget code target) change accepted same writes tt (λ contents. refl)

@@ -19,7 +19,7 @@ use Rattle.office_rules.specs.State.{ByteMap, entry_cmp, Office, State, with_con
 use Rattle.office_rules.specs.Tables.{Represents, TableLists}
 use Rattle.office_rules.proofs.OneState.{one_office}
 use Rattle.office_machine.proofs.EntryTests.{AreEntriesSound, entries_sound, entries_tested}
-use Rattle.office_machine.proofs.PartsTests.{contents_agree, days_sound, days_tested, keys_of_live, documents_sound, documents_tested}
+use Rattle.office_machine.proofs.PartsTests.{contents_agree, days_sound, days_tested, active_keys, documents_sound, documents_tested}
 
 pub found_sound : {V : Type 0} (s : Office) (marks : FinMap nat_cmp V) (contents : ByteMap) → IsWellFormedOffice s → AreEntriesKeyed s.entries → DoPartsAgree s marks
     → EachHasOneEnding s.tree.statuses (values s.entries) → tree.RefsDiffer s.tree.aggregations s.tree.records → map (λ e. e.0) (entries contents) ≡ map (λ e. e.0) (entries marks)
@@ -41,7 +41,7 @@ found_sound s marks contents formed keyed agree endings refs same =
       forest = formed.tree_sound.forest;
       names = record { of_tree = formed.tree_sound.names; of_holds = agree.represent.targets; of_entries = them.named };
       closed = formed.tree_sound.closed;
-      contents = contents_agree s.tree.statuses contents marks same agree.represent.live;
+      contents = contents_agree s.tree.statuses contents marks same agree.represent.active;
       documents = documents_sound s.tree.records s.tree.statuses s.entries formed.tree_sound.statuses agree.documents them.transferred;
       entries = them.represent;
       runs = agree.represent.runs;
@@ -66,7 +66,7 @@ sound_parts s marks contents same sound =
       represent = record {
         targets = sound.names.of_holds;
         runs = sound.runs;
-        live = keys_of_live s.tree.statuses contents marks same sound.contents;
+        active = active_keys s.tree.statuses contents marks same sound.contents;
         entries = (entries_tested s sound.limits.statuses (sound_entries s contents sound)).0;
       };
     }

@@ -1,4 +1,5 @@
 pub mod AboveRecords
+pub mod ActiveKeys
 pub mod AscendingKeys
 pub mod Collected
 pub mod DayWrites
@@ -16,7 +17,6 @@ pub mod EntryTests
 pub mod FoundSound
 pub mod FoundTables
 pub mod FoundTree
-pub mod LiveKeys
 pub mod LookedAt
 pub mod MapRows
 pub mod MinRefusals

@@ -23,7 +23,7 @@ use Rattle.office_rules.specs.Holds.{HoldMap}
 use Rattle.office_rules.specs.SoundHolds.{NoHoldIsAfter}
 use Rattle.office_rules.specs.declared.entry.Entry.{Entry}
 use Rattle.office_rules.specs.declared.outcome.Outcome.TheVariants.{Transferred}
-use Rattle.office_rules.specs.Loading.{AreKeysOfLive, AreRunsBy}
+use Rattle.office_rules.specs.Loading.{AreActiveKeys, AreRunsBy}
 use Rattle.office_rules.specs.Sound.{ContentsAgree, NoDayIsAfter, DocumentsAgree}
 use Rattle.office_rules.specs.State.{ByteMap, EntryMap}
 use Rattle.office_rules.specs.declared.run.Run.{Run}
@@ -37,14 +37,14 @@ keys_of_contents contents marks same r =
     (λ here. sym alike ∙ here, λ there. alike ∙ there)
 
 -- so contents are there where the keys are those of the records that are not ended
-pub contents_agree : {V : Type 0} (statuses : List Status) (contents : ByteMap) (marks : FinMap nat_cmp V) → map (λ e. e.0) (entries contents) ≡ map (λ e. e.0) (entries marks) → AreKeysOfLive statuses marks → ContentsAgree statuses contents
-contents_agree statuses contents marks same live r =
+pub contents_agree : {V : Type 0} (statuses : List Status) (contents : ByteMap) (marks : FinMap nat_cmp V) → map (λ e. e.0) (entries contents) ≡ map (λ e. e.0) (entries marks) → AreActiveKeys statuses marks → ContentsAgree statuses contents
+contents_agree statuses contents marks same active r =
     let alike = keys_of_contents contents marks same r in
-    (λ here. (live r).0 (alike.0 here), λ there. alike.1 ((live r).1 there))
+    (λ here. (active r).0 (alike.0 here), λ there. alike.1 ((active r).1 there))
 
 -- and only there
-pub keys_of_live : {V : Type 0} (statuses : List Status) (contents : ByteMap) (marks : FinMap nat_cmp V) → map (λ e. e.0) (entries contents) ≡ map (λ e. e.0) (entries marks) → ContentsAgree statuses contents → AreKeysOfLive statuses marks
-keys_of_live statuses contents marks same represent r =
+pub active_keys : {V : Type 0} (statuses : List Status) (contents : ByteMap) (marks : FinMap nat_cmp V) → map (λ e. e.0) (entries contents) ≡ map (λ e. e.0) (entries marks) → ContentsAgree statuses contents → AreActiveKeys statuses marks
+active_keys statuses contents marks same represent r =
     let alike = keys_of_contents contents marks same r in
     (λ here. (represent r).0 (alike.1 here), λ there. alike.0 ((represent r).1 there))
 

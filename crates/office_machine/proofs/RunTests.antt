@@ -133,17 +133,17 @@ keys_passed xs test es h = from_keys (λ n. holds_of (numbered xs n) test ≡ tr
 
 -- ---- records that are not ended
 
-pub live_of : (status : Status) → not (is_ended status) ≡ true → status ≢ Ended
-live_of Here e is = cc
-live_of Sent e is = cc
-live_of Received e is = cc
-live_of Ended e is = cc
+pub active_of : (status : Status) → not (is_ended status) ≡ true → status ≢ Ended
+active_of Here e is = cc
+active_of Sent e is = cc
+active_of Received e is = cc
+active_of Ended e is = cc
 
-pub to_live : (status : Status) → status ≢ Ended → not (is_ended status) ≡ true
-to_live Here other = refl
-to_live Sent other = refl
-to_live Received other = refl
-to_live Ended other = absurd (other refl)
+pub to_active : (status : Status) → status ≢ Ended → not (is_ended status) ≡ true
+to_active Here other = refl
+to_active Sent other = refl
+to_active Received other = refl
+to_active Ended other = absurd (other refl)
 
 -- ---- values
 

@@ -13,8 +13,8 @@ use Rattle.office_rules.specs.declared.run.Run.{Run}
 abbrev pub outcome_writes : Outcome → ℕ → Record → List RowWrite
 outcome_writes outcome.Sent r head = row_write.Record r head status.Sent ∷ []
 outcome_writes outcome.Skipped r head = []
-outcome_writes outcome.Destroyed r head = row_write.Record r head status.Ended ∷ row_write.ContentGone r ∷ []
-outcome_writes outcome.Transferred r head = row_write.Record r head status.Ended ∷ row_write.ContentGone r ∷ []
+outcome_writes outcome.Destroyed r head = row_write.Record r head status.Ended ∷ row_write.DeleteContent r ∷ []
+outcome_writes outcome.Transferred r head = row_write.Record r head status.Ended ∷ row_write.DeleteContent r ∷ []
 
 -- its entry, its own rows, and the run with its cursor at it
 abbrev pub taking_writes : Outcome → Entry → Record → Run → List RowWrite

@@ -131,7 +131,7 @@ impl Parts {
         self.go(
             alloc,
             Answer::Done,
-            RowWrite::TargetGone { hold, target },
+            RowWrite::RemoveTarget { hold, target },
             day,
         )
     }

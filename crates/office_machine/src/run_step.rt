@@ -60,7 +60,7 @@ fn with_outcome(
         Outcome::Sent => with_status(alloc, tree, writes, record_no, Status::Sent),
         Outcome::Destroyed | Outcome::Transferred => {
             let mut writes = with_status(alloc, tree, writes, record_no, Status::Ended)?;
-            writes.push(RowWrite::ContentGone { number: record_no })?;
+            writes.push(RowWrite::DeleteContent { number: record_no })?;
             Ok(writes)
         }
     }

@@ -58,7 +58,7 @@ impl Parts {
             RowWrite::Event { number, event } => self.tree.put_event(number, event),
             RowWrite::Hold { code, hold } => self.holds.put(code, hold),
             RowWrite::Target { hold, target } => self.holds.put_target(&hold, target),
-            RowWrite::TargetGone { hold, target } => {
+            RowWrite::RemoveTarget { hold, target } => {
                 self.holds.take_target(&hold, &target);
                 Ok(())
             }
@@ -84,7 +84,7 @@ impl Parts {
             } => replace_record(&mut self.tree, number, head, status),
             RowWrite::Run { number, run } => replace_run(&mut self.runs, number, run),
             RowWrite::Day { day } => self.day = day,
-            RowWrite::Content { .. } | RowWrite::ContentGone { .. } => {}
+            RowWrite::Content { .. } | RowWrite::DeleteContent { .. } => {}
             _ => unreachable!(),
         }
     }

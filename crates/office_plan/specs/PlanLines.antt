@@ -9,7 +9,7 @@ use Rattle.office_base.specs.declared.refusal.Refusal.{Refusal}
 use Rattle.office_base.specs.declared.refusal.Refusal.TheVariants.{BadText}
 use Rattle.office_days.specs.Periods.{RetentionPeriod}
 use Rattle.office_days.specs.Texts.{day_named}
-use Rattle.office_base.specs.ThingNumbers.{thing_number}
+use Rattle.office_base.specs.EntityNumbers.{entity_number}
 use Rattle.office_days.specs.Words.{offset_named}
 use Rattle.office_records.specs.declared.action.Action.{Action}
 use Rattle.office_records.specs.declared.schedule.Schedule.{Schedule as DisposalSchedule}
@@ -35,10 +35,10 @@ unfoldable pub optional_code_at : List (List ℕ) → ℕ → Result (Option (Li
 optional_code_at words i = optional_part code_part (word_at words i)
 
 unfoldable pub number_at : List (List ℕ) → ℕ → Result ℕ Refusal
-number_at words i = thing_number (word_at words i)
+number_at words i = entity_number (word_at words i)
 
 unfoldable pub optional_number_at : List (List ℕ) → ℕ → Result (Option ℕ) Refusal
-optional_number_at words i = optional_part thing_number (word_at words i)
+optional_number_at words i = optional_part entity_number (word_at words i)
 
 unfoldable pub day_at : List (List ℕ) → ℕ → Result ℤ Refusal
 day_at words i = named_part (day_named (word_at words i))

@@ -1,10 +1,10 @@
 //! Periods, days, codes and numbers as the words of a plan file write them.
 ghost use Rattle.std.specs.Prelude.{◌≡◌, IfOk};
 ghost use Rattle.office_days.specs.Texts.{day_named};
-ghost use Rattle.office_base.specs.ThingNumbers.{thing_number};
+ghost use Rattle.office_base.specs.EntityNumbers.{entity_number};
 ghost use Rattle.office_plan.specs.Parts.{both, code_part, named_part, optional_part, period_part};
 
-use office_base::{Memory, Refusal, read_numeral, read_thing_number};
+use office_base::{Memory, Refusal, read_entity_number, read_numeral};
 use office_days::{Day, Period, Unit};
 use office_records::{AggNo, Code};
 use std::alloc::Global;
@@ -76,12 +76,12 @@ pub fn read_optional_code(
 
 /// The number of an aggregation that may be left out, as `-`.
 pub fn read_optional_number(word: &str) -> Result<Option<AggNo>, Refusal>
-    ensures { result ≡ optional_part thing_number word.now }
+    ensures { result ≡ optional_part entity_number word.now }
 {
     if word == "-" {
         return Ok(None);
     }
-    match read_thing_number(word) {
+    match read_entity_number(word) {
         Ok(number) => Ok(Some(number)),
         Err(refusal) => Err(refusal),
     }

@@ -6,7 +6,7 @@ use crate::parts::{
     both, read_code, read_day, read_optional_code, read_optional_number, read_period,
 };
 use crate::plan_words::words_of;
-use office_base::{Memory, Refusal, read_thing_number};
+use office_base::{Memory, Refusal, read_entity_number};
 use office_days::{Day, Offset, Period};
 use office_records::{Action, AggNo, Code, RecordNo, Schedule, Trigger};
 use std::alloc::Global;
@@ -54,7 +54,7 @@ fn optional_code_at(
 fn number_at(words: &[&str], i: usize) -> Result<AggNo, Refusal>
     ensures { result ≡ number_at (map (λ word. word.now) words.now) i }
 {
-    read_thing_number(word_at(words, i))
+    read_entity_number(word_at(words, i))
 }
 
 /// The number of an aggregation at a place, or none.

@@ -1,4 +1,4 @@
--- To add a thing is to put it under the next number.
+-- To add an entity is to put it under the next number.
 use Rattle.std.proofs.Common.{◌≡◌, ℕ, ◌+◌, List, [], ◌∷◌, ◌++◌, length, Some, None, false, sym, ap, ◌∙◌, arith}
 use Rattle.std.specs.FinMap.{contains_key}
 use Rattle.office_records.specs.Conditions.{first_of, conditions_of_add_schedule}

@@ -62,9 +62,9 @@ IsSound-set_class_schedule tree class schedule sound accepted =
 
 -- ---- a record's head
 
--- a change that keeps the container and gives only classes and schedules that are there
+-- a change that keeps the aggregation and gives only classes and schedules that are there
 pub record IsFit (tree : TreeState) (r : ℕ) (change : Record → Record) : Type 0 where
-  pub container : (head : Record) → (change head).aggregation ≡ head.aggregation
+  pub aggregation : (head : Record) → (change head).aggregation ≡ head.aggregation
   pub class : (head : Record) → numbered tree.records r ≡ Some head → Names tree.classes (change head).class
   pub schedule : (head : Record) → numbered tree.records r ≡ Some head → Names tree.schedules (change head).schedule
 
@@ -83,12 +83,12 @@ NamesExist-with_head tree r change sound fit = record {
   root_classes = sound.names.root_classes;
   containers = λ n head e.
       let came = numbered_edited tree.records r change head n e in
-      let container = sound.names.containers n came.0 came.1 in
+      let aggregation = sound.names.containers n came.0 came.1 in
       elim came.2 [
-        | inl same ↦ subst (λ (k : Record). (0 < k.aggregation) × (k.aggregation ≤ length tree.aggregations)) (sym same) container
+        | inl same ↦ subst (λ (k : Record). (0 < k.aggregation) × (k.aggregation ≤ length tree.aggregations)) (sym same) aggregation
         | inr changed ↦
-            let kept : came.0.aggregation ≡ head.aggregation = sym (fit.container came.0) ∙ ap (λ (k : Record). k.aggregation) (sym changed.1) in
-            subst (λ (a : ℕ). (0 < a) × (a ≤ length tree.aggregations)) kept container
+            let kept : came.0.aggregation ≡ head.aggregation = sym (fit.aggregation came.0) ∙ ap (λ (k : Record). k.aggregation) (sym changed.1) in
+            subst (λ (a : ℕ). (0 < a) × (a ≤ length tree.aggregations)) kept aggregation
       ];
   record_classes = λ n head e.
       let came = numbered_edited tree.records r change head n e in
@@ -125,7 +125,7 @@ IsSound-set_record_schedule tree r schedule sound accepted =
     let no = none_holds (conditions_of_set_record_schedule tree r schedule) accepted in
     let lacks = neither (not (has_record tree r)) (lacks_schedule tree schedule) no.0 in
     IsSound-with_head tree r (λ head. record head { schedule = schedule }) sound (record {
-      container = λ head. refl;
+      aggregation = λ head. refl;
       class = λ head e. sound.names.record_classes r head e;
       schedule = λ head e. names_of tree.schedules schedule lacks.1;
     })
@@ -133,7 +133,7 @@ IsSound-set_record_schedule tree r schedule sound accepted =
 pub IsSound-confirm : (tree : TreeState) (day : ℤ) (r : ℕ) (named : Action) (by : List ℕ) → IsSound tree → first_of (conditions_of_confirm tree day r named) ≡ None → IsSound (confirmed tree day r named by)
 IsSound-confirm tree day r named by sound accepted =
     IsSound-with_head tree r (λ head. record head { confirmation = option_map (λ due. record { action = named; due = due; day = day; by = by }) (due_of tree r) }) sound (record {
-      container = λ head. refl;
+      aggregation = λ head. refl;
       class = λ head e. sound.names.record_classes r head e;
       schedule = λ head e. sound.names.record_schedules r head e;
     })
@@ -143,7 +143,7 @@ IsSound-review tree day r schedule by sound accepted =
     let no = none_holds (conditions_of_review tree day r schedule) accepted in
     let lacks = neither (not (has_record tree r)) (lacks_schedule tree schedule) no.0 in
     IsSound-with_head tree r (λ head. record head { review = Some (record { day = day; by = by }); schedule = or_else schedule head.schedule }) sound (record {
-      container = λ head. refl;
+      aggregation = λ head. refl;
       class = λ head e. sound.names.record_classes r head e;
       schedule = λ head e. names_else tree schedule head.schedule (names_of tree.schedules schedule lacks.1) (sound.names.record_schedules r head e);
     })
@@ -154,7 +154,7 @@ IsSound-receipt tree day r digest by sound accepted =
     record {
       limits = FitsLimits-with_head tree r change sound;
       forest = sound.forest;
-      names = NamesExist-with_head tree r change sound (record { container = λ head. refl; class = λ head e. sound.names.record_classes r head e; schedule = λ head e. sound.names.record_schedules r head e });
+      names = NamesExist-with_head tree r change sound (record { aggregation = λ head. refl; class = λ head e. sound.names.record_classes r head e; schedule = λ head e. sound.names.record_schedules r head e });
       closed = sound.closed;
       statuses = length-edited tree.statuses r (λ _. Received) ∙ statuses-with_head tree r change sound;
     }
@@ -219,7 +219,7 @@ IsSound-reclassify tree (classified.Record r) class sound accepted =
     let no = none_holds (conditions_of_reclassify tree (classified.Record r) class) accepted in
     let lacks = neither (lacks_classified tree (classified.Record r)) (lacks_class tree class) no.0 in
     IsSound-with_head tree r (λ head. record head { class = class }) sound (record {
-      container = λ head. refl;
+      aggregation = λ head. refl;
       class = λ head e. names_of tree.classes class lacks.1;
       schedule = λ head e. sound.names.record_schedules r head e;
     })

@@ -4,7 +4,7 @@ use Rattle.std.proofs.lemmas.Bool.Decides.{nat_tests}
 use Rattle.std.specs.List.{list_any}
 use Rattle.office_records.specs.Disposal.{is_below}
 use Rattle.office_records.specs.Lists.{numbered, first_some}
-use Rattle.office_records.specs.Meanings.{parent_of, reached, container_of, Contains, own_class_of, record_own_class, IsNearestFrom, IsClassOf}
+use Rattle.office_records.specs.Meanings.{parent_of, reached, aggregation_of, Contains, own_class_of, record_own_class, IsNearestFrom, IsClassOf}
 use Rattle.office_records.specs.Sound.{IsForest, IsSound}
 use Rattle.office_records.specs.Tree.{TreeState, has_aggregation, chain, chain_of, above, above_in, above_head, own_classes, class_in, class_of, aggregation_class_in, aggregation_class_of}
 use Rattle.office_records.specs.declared.aggregation.Aggregation.{Aggregation}
@@ -34,11 +34,11 @@ head_place : (tree : TreeState) → IsSound tree → (r n : ℕ) (o : Option Rec
     → slice_get (above_head tree.aggregations o) n ≡ reached tree.aggregations n (option_and_then (λ (head : Record). Some head.aggregation) o)
 head_place tree sound r n None e = sym (reached_none tree.aggregations n)
 head_place tree sound r n (Some head) e =
-    let container = sound.names.containers r head e in
-    chain_place tree.aggregations sound.forest head.aggregation n (Some head.aggregation) (λ a is. let same : head.aggregation ≡ a = cc in (omega (arith, container.0, same), omega (arith, same)))
+    let aggregation = sound.names.containers r head e in
+    chain_place tree.aggregations sound.forest head.aggregation n (Some head.aggregation) (λ a is. let same : head.aggregation ≡ a = cc in (omega (arith, aggregation.0, same), omega (arith, same)))
 
 -- place n above a record has what n steps from its own aggregation lead to
-above_place : (tree : TreeState) → IsSound tree → (r n : ℕ) → slice_get (above tree r) n ≡ reached tree.aggregations n (container_of tree r)
+above_place : (tree : TreeState) → IsSound tree → (r n : ℕ) → slice_get (above tree r) n ≡ reached tree.aggregations n (aggregation_of tree r)
 unfolding above_in
 above_place tree sound r n = head_place tree sound r n (numbered tree.records r) refl
 
@@ -100,7 +100,7 @@ is_first own (x ∷ xs) class zero b at has before = let same : x ≡ b = cc in 
 is_first own (x ∷ xs) class (suc n) b at has before =
     ap (λ o. first_some (o ∷ map own xs)) (before 0 x (omega arith) refl) ∙ is_first own xs class n b at has (λ m c h e. before (suc m) c (omega (arith, h)) e)
 
--- the chain from a container reports the class of the nearest that has one
+-- the chain from an aggregation reports the class of the nearest that has one
 nearest_is : (xs : List Aggregation) (from : Option ℕ) (class : List ℕ) (chained : List ℕ) → ((n : ℕ) → slice_get chained n ≡ reached xs n from) → first_some (own_classes xs chained) ≡ Some class → IsNearestFrom xs from class
 nearest_is xs from class chained place e =
     let h = first_is (own_class_of xs) chained class e in
@@ -117,12 +117,12 @@ is_nearest xs from class chained place h =
     is_first (own_class_of xs) chained class h.steps h.nearest (place h.steps ∙ h.leads) h.own (λ m c less at. h.nearer m c less (sym (place m) ∙ at))
 
 class_is : (tree : TreeState) (r : ℕ) (class : List ℕ) (o : Option (List ℕ)) → IsSound tree → record_own_class tree r ≡ o → first_some (o ∷ own_classes tree.aggregations (above tree r)) ≡ Some class → IsClassOf tree r class
-class_is tree r class None sound own e = inr (own, nearest_is tree.aggregations (container_of tree r) class (above tree r) (above_place tree sound r) e)
+class_is tree r class None sound own e = inr (own, nearest_is tree.aggregations (aggregation_of tree r) class (above tree r) (above_place tree sound r) e)
 class_is tree r class (Some c) sound own e = inl (own ∙ e)
 
 is_class : (tree : TreeState) (r : ℕ) (class : List ℕ) → IsSound tree → IsClassOf tree r class → first_some (record_own_class tree r ∷ own_classes tree.aggregations (above tree r)) ≡ Some class
 is_class tree r class sound (inl own) = ap (λ o. first_some (o ∷ own_classes tree.aggregations (above tree r))) own
-is_class tree r class sound (inr (none, nearest)) = ap (λ o. first_some (o ∷ own_classes tree.aggregations (above tree r))) none ∙ is_nearest tree.aggregations (container_of tree r) class (above tree r) (above_place tree sound r) nearest
+is_class tree r class sound (inr (none, nearest)) = ap (λ o. first_some (o ∷ own_classes tree.aggregations (above tree r))) none ∙ is_nearest tree.aggregations (aggregation_of tree r) class (above tree r) (above_place tree sound r) nearest
 
 pub class_nearest : (tree : TreeState) (r : ℕ) (class : List ℕ) → IsSound tree → ((class_of tree r ≡ Some class) ↔ IsClassOf tree r class)
 unfolding class_in

@@ -171,7 +171,7 @@ NamesExist-add_aggregation tree x sound named own = record {
     | inr new ↦ subst (λ (k : Aggregation). Names tree.classes k.class) new.1 named
   ];
   root_classes = roots_push tree.aggregations x sound.names.root_classes own;
-  containers = λ r head e. let container = sound.names.containers r head e in (container.0, omega (arith, container.1, length-append tree.aggregations (x ∷ [])));
+  containers = λ r head e. let aggregation = sound.names.containers r head e in (aggregation.0, omega (arith, aggregation.1, length-append tree.aggregations (x ∷ [])));
   record_classes = sound.names.record_classes;
   record_schedules = sound.names.record_schedules;
 }
@@ -261,7 +261,7 @@ NamesExist-edited tree a f sound named roots = record {
         | inr changed ↦ subst (λ (k : Aggregation). Names tree.classes k.class) (sym changed.1) (named came.0 old)
       ];
   root_classes = roots;
-  containers = λ r head e. let container = sound.names.containers r head e in (container.0, omega (arith, container.1, length-edited tree.aggregations a f));
+  containers = λ r head e. let aggregation = sound.names.containers r head e in (aggregation.0, omega (arith, aggregation.1, length-edited tree.aggregations a f));
   record_classes = sound.names.record_classes;
   record_schedules = sound.names.record_schedules;
 }
@@ -289,13 +289,13 @@ FitsLimits-add_record tree head sound few = record {
 
 NamesExist-add_record : (tree : TreeState) (head : Record) → IsSound tree → (0 < head.aggregation) × (head.aggregation ≤ length tree.aggregations) → Names tree.classes head.class → Names tree.schedules head.schedule
     → NamesExist tree.schedules tree.classes tree.aggregations (tree.records ++ head ∷ [])
-NamesExist-add_record tree head sound container class schedule = record {
+NamesExist-add_record tree head sound aggregation class schedule = record {
   class_schedules = sound.names.class_schedules;
   aggregation_classes = sound.names.aggregation_classes;
   root_classes = sound.names.root_classes;
   containers = λ r it e. elim (numbered_push tree.records head it r e) [
     | inl old ↦ sound.names.containers r it old
-    | inr new ↦ subst (λ (k : Record). (0 < k.aggregation) × (k.aggregation ≤ length tree.aggregations)) new.1 container
+    | inr new ↦ subst (λ (k : Record). (0 < k.aggregation) × (k.aggregation ≤ length tree.aggregations)) new.1 aggregation
   ];
   record_classes = λ r it e. elim (numbered_push tree.records head it r e) [
     | inl old ↦ sound.names.record_classes r it old
@@ -314,12 +314,12 @@ pub IsSound-add_record : (tree : TreeState) (head : Record) → IsSound tree →
 IsSound-add_record tree head sound accepted =
     let no = none_holds (conditions_of_add_record tree head.ref_text head.aggregation head.class head.schedule) accepted in
     let lacks = neither (not (has_aggregation tree head.aggregation) || lacks_class tree head.class) (lacks_schedule tree head.schedule) no.1.0 in
-    let container_or_class = neither (not (has_aggregation tree head.aggregation)) (lacks_class tree head.class) lacks.0 in
-    let container = aggregation_within tree head.aggregation (not_false (has_aggregation tree head.aggregation) container_or_class.0) in
+    let aggregation_or_class = neither (not (has_aggregation tree head.aggregation)) (lacks_class tree head.class) lacks.0 in
+    let aggregation = aggregation_within tree head.aggregation (not_false (has_aggregation tree head.aggregation) aggregation_or_class.0) in
     record {
       limits = FitsLimits-add_record tree head sound (below (length tree.records) 200_000 no.1.1.0);
       forest = sound.forest;
-      names = NamesExist-add_record tree head sound container (names_of tree.classes head.class container_or_class.1) (names_of tree.schedules head.schedule lacks.1);
+      names = NamesExist-add_record tree head sound aggregation (names_of tree.classes head.class aggregation_or_class.1) (names_of tree.schedules head.schedule lacks.1);
       closed = sound.closed;
       statuses = statuses-add_record tree head sound;
     }

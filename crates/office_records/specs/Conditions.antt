@@ -1,5 +1,5 @@
 -- Why an act on the tree is refused: for each act one table of its conditions, in the order of the refusals' numbers,
--- of which the first that holds is answered. A condition about a thing that is not there is false. Source: own.
+-- of which the first that holds is answered. A condition about an entity that is not there is false. Source: own.
 use Rattle.std.specs.Prelude.{◌≡◌, ℕ, Bool, true, false, IsTrue, ◌&&◌, ◌||◌, not, List, [], ◌∷◌, length, nat_le, Option, Some, None, IfSome, IfNone, ◌==◌, ◌<◌, ◌≤◌, ℤ, int_le, int_lt, if◌then◌else◌}
 use Rattle.std.specs.Option.{is_some, is_none}
 use Rattle.std.specs.List.{list_any, All, AllByRecursion, Contains}

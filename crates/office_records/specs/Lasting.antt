@@ -1,4 +1,4 @@
--- What stays of a thing when a row is put in place of it. Source: own.
+-- What stays of an entity when a row is put in place of it. Source: own.
 use Rattle.std.specs.Prelude.{◌≡◌, ℕ, List, Some}
 use Rattle.office_records.specs.Lists.{numbered}
 use Rattle.office_records.specs.declared.aggregation.Aggregation.{Aggregation}

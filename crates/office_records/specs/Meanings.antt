@@ -12,18 +12,18 @@ use Rattle.office_records.specs.declared.status.Status.TheVariants.{Ended}
 abbrev pub parent_of : List Aggregation → ℕ → Option ℕ
 parent_of aggregations a = option_and_then (λ it. it.parent) (numbered aggregations a)
 
--- where so many steps from a thing's container to that one's container, and so on, lead
+-- where so many steps from an entity's aggregation to that one's parent, and so on, lead
 abbrev pub reached : List Aggregation → ℕ → Option ℕ → Option ℕ
 reached aggregations zero from = from
 reached aggregations (suc steps) from = reached aggregations steps (option_and_then (parent_of aggregations) from)
 
 -- the aggregation of a record
-abbrev pub container_of : TreeState → ℕ → Option ℕ
-container_of tree r = option_and_then (λ head. Some head.aggregation) (numbered tree.records r)
+abbrev pub aggregation_of : TreeState → ℕ → Option ℕ
+aggregation_of tree r = option_and_then (λ head. Some head.aggregation) (numbered tree.records r)
 
 -- the aggregation contains the record: some number of steps from the record's own aggregation leads to it
 abbrev pub Contains : TreeState → ℕ → ℕ → Type 0
-Contains tree a r = (steps : ℕ) × (reached tree.aggregations steps (container_of tree r) ≡ Some a)
+Contains tree a r = (steps : ℕ) × (reached tree.aggregations steps (aggregation_of tree r) ≡ Some a)
 
 -- the own class of an aggregation, and of a record
 abbrev pub own_class_of : List Aggregation → ℕ → Option (List ℕ)
@@ -43,7 +43,7 @@ pub record IsNearestFrom (aggregations : List Aggregation) (from : Option ℕ) (
 
 -- some aggregation that contains the record has that class as its own, and none nearer has one
 abbrev pub IsNearestClass : TreeState → ℕ → List ℕ → Type 0
-IsNearestClass tree r class = IsNearestFrom tree.aggregations (container_of tree r) class
+IsNearestClass tree r class = IsNearestFrom tree.aggregations (aggregation_of tree r) class
 
 -- the class of a record: its own, or where it has none that of the nearest aggregation that has one
 abbrev pub IsClassOf : TreeState → ℕ → List ℕ → Type 0

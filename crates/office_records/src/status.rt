@@ -44,7 +44,7 @@ impl Status {
     }
 
     /// Whether the record's disposal is not complete.
-    pub fn is_live(self) -> bool
+    pub fn is_active(self) -> bool
         ensures { result ≡ not (is_ended self) }
     {
         match self {

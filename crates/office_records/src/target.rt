@@ -1,4 +1,4 @@
-//! The things that a hold can be put on.
+//! The entities that a hold can be put on.
 ghost use Rattle.std.specs.Prelude.{◌≡◌, IfOk};
 
 use crate::{AggNo, Code, RecordNo};

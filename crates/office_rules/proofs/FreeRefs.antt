@@ -71,7 +71,7 @@ free_to_follow s (row_write.Record number head status) (low, high, sound, (old, 
 )
 free_to_follow s (row_write.Run number run) follows differ = (tt, differ)
 free_to_follow s (row_write.Content number bytes) follows differ = (tt, differ)
-free_to_follow s (row_write.ContentGone number) follows differ = (tt, differ)
+free_to_follow s (row_write.DeleteContent number) follows differ = (tt, differ)
 free_to_follow s (row_write.Day day) follows differ = (tt, differ)
 free_to_follow s w follows differ = absurd follows
 
@@ -91,7 +91,7 @@ free_to_put s (row_write.Class code class) puts differ = tt
 free_to_put s (row_write.Event number event) puts differ = tt
 free_to_put s (row_write.Hold code hold) puts differ = tt
 free_to_put s (row_write.Target hold target) puts differ = tt
-free_to_put s (row_write.TargetGone hold target) puts differ = tt
+free_to_put s (row_write.RemoveTarget hold target) puts differ = tt
 free_to_put s (row_write.Run number run) puts differ = tt
 free_to_put s (row_write.Entry entry) puts differ = tt
 free_to_put s (row_write.Certificate run text) puts differ = tt

@@ -233,24 +233,24 @@ own_classes_same_pushed xs x placed (suc m) (Some a) w =
     λ i. option_and_then (λ (it : Aggregation). it.class) (numbered_same xs x a w.1 i)
     ∷ own_classes_same_pushed xs x placed m (above_one xs a) (next_within xs placed a (length xs) (omega (arith, w.1))) i
 
--- the container of a record that is there
-abbrev pub ContainerFits : List Aggregation → Option Record → Type 0
-ContainerFits xs None = Unit {0}
-ContainerFits xs (Some head) = (0 < head.aggregation) × (head.aggregation ≤ length xs)
+-- the aggregation of a record that is there
+abbrev pub AggregationFits : List Aggregation → Option Record → Type 0
+AggregationFits xs None = Unit {0}
+AggregationFits xs (Some head) = (0 < head.aggregation) × (head.aggregation ≤ length xs)
 
-pub container_fits : (tree : TreeState) → IsSound tree → (r : ℕ) (o : Option Record) → numbered tree.records r ≡ o → ContainerFits tree.aggregations o
-container_fits tree sound r None e = tt
-container_fits tree sound r (Some head) e = sound.names.containers r head e
+pub aggregation_fits : (tree : TreeState) → IsSound tree → (r : ℕ) (o : Option Record) → numbered tree.records r ≡ o → AggregationFits tree.aggregations o
+aggregation_fits tree sound r None e = tt
+aggregation_fits tree sound r (Some head) e = sound.names.containers r head e
 
-above_pushed : (xs : List Aggregation) (x : Aggregation) → ArePlaced xs → (o : Option Record) → ContainerFits xs o → above_head (xs ++ x ∷ []) o ≡ above_head xs o
+above_pushed : (xs : List Aggregation) (x : Aggregation) → ArePlaced xs → (o : Option Record) → AggregationFits xs o → above_head (xs ++ x ∷ []) o ≡ above_head xs o
 above_pushed xs x placed None w = refl
 above_pushed xs x placed (Some head) w = chain_same_pushed xs x placed head.aggregation (Some head.aggregation) w
 
-classes_pushed : (xs : List Aggregation) (x : Aggregation) → ArePlaced xs → (o : Option Record) → ContainerFits xs o → own_classes (xs ++ x ∷ []) (above_head xs o) ≡ own_classes xs (above_head xs o)
+classes_pushed : (xs : List Aggregation) (x : Aggregation) → ArePlaced xs → (o : Option Record) → AggregationFits xs o → own_classes (xs ++ x ∷ []) (above_head xs o) ≡ own_classes xs (above_head xs o)
 classes_pushed xs x placed None w = refl
 classes_pushed xs x placed (Some head) w = own_classes_same_pushed xs x placed head.aggregation (Some head.aggregation) w
 
-held_in_pushed : (holds : HoldMap) (xs : List Aggregation) (x : Aggregation) (records : List Record) (r : ℕ) → ArePlaced xs → ContainerFits xs (numbered records r) → held_of holds (xs ++ x ∷ []) records r ≡ held_of holds xs records r
+held_in_pushed : (holds : HoldMap) (xs : List Aggregation) (x : Aggregation) (records : List Record) (r : ℕ) → ArePlaced xs → AggregationFits xs (numbered records r) → held_of holds (xs ++ x ∷ []) records r ≡ held_of holds xs records r
 unfolding above_in class_in
 held_in_pushed holds xs x records r placed w =
     let o : Option Record = numbered records r in
@@ -260,7 +260,7 @@ held_in_pushed holds xs x records r placed w =
 pub held-add_aggregation : (holds : HoldMap) (tree : TreeState) (ref_text title : List ℕ) (parent : Option ℕ) (class : Option (List ℕ)) (r : ℕ) → IsSound tree → is_held holds tree r ≡ true → is_held holds (added_aggregation tree ref_text title parent class) r ≡ true
 held-add_aggregation holds tree ref_text title parent class r sound h =
     held_in_pushed holds tree.aggregations (record { ref_text = ref_text; title = title; parent = parent; class = class; closed = None }) tree.records r
-    (placed_in tree.aggregations sound.forest sound.names.root_classes) (container_fits tree sound r (numbered tree.records r) refl)
+    (placed_in tree.aggregations sound.forest sound.names.root_classes) (aggregation_fits tree sound r (numbered tree.records r) refl)
     ∙ h
 
 -- ---- the acts on holds

@@ -20,7 +20,7 @@ use Rattle.office_records.proofs.Accepting.{neither}
 use Rattle.office_records.proofs.Walk.{ArePlaced, placed_in, chain_same, chain-edited}
 use Rattle.office_rules.specs.HoldConditions.{would_leave_held_class}
 use Rattle.office_rules.specs.Holds.{HoldMap, is_in_force, hold_covers, held_in, is_held, is_held_class}
-use Rattle.office_rules.proofs.LastingHolds.{either_more, held_more, class_of_none, own_class, above-with_head, above-edited, same_head, IsWithin, above_one, next_within, ContainerFits, container_fits}
+use Rattle.office_rules.proofs.LastingHolds.{either_more, held_more, class_of_none, own_class, above-with_head, above-edited, same_head, IsWithin, above_one, next_within, AggregationFits, aggregation_fits}
 
 -- ---- a class that is left and not held
 
@@ -133,13 +133,13 @@ chain_follows xs a class placed (suc m) (Some b) within =
       | inr there ↦ inr (here_follows xs a b (suc m) class placed there within)
     ]
 
-head_follows : (xs : List Aggregation) (a : ℕ) (class : Option (List ℕ)) → ArePlaced xs → (o : Option Record) → ContainerFits xs o
+head_follows : (xs : List Aggregation) (a : ℕ) (class : Option (List ℕ)) → ArePlaced xs → (o : Option Record) → AggregationFits xs o
     → Follows (own_class o ∷ own_classes xs (above_head xs o)) (own_class o ∷ own_classes (edited xs a (with_class class)) (above_head xs o)) (aggregation_class_in xs a) (aggregation_class_in (edited xs a (with_class class)) a)
 head_follows xs a class placed None fits = inl refl
 head_follows xs a class placed (Some head) fits =
     follows_on head.class _ _ _ _ (chain_follows xs a class placed head.aggregation (Some head.aggregation) (fits.0, omega arith))
 
-class_follows : (xs : List Aggregation) (records : List Record) (a : ℕ) (class : Option (List ℕ)) (r : ℕ) → ArePlaced xs → ContainerFits xs (numbered records r)
+class_follows : (xs : List Aggregation) (records : List Record) (a : ℕ) (class : Option (List ℕ)) (r : ℕ) → ArePlaced xs → AggregationFits xs (numbered records r)
     → (class_in (edited xs a (with_class class)) records r ≡ class_in xs records r)
     ⊎ ((aggregation_class_in xs a ≡ class_in xs records r) × (aggregation_class_in (edited xs a (with_class class)) a ≡ class_in (edited xs a (with_class class)) records r))
 unfolding class_in above_in
@@ -159,7 +159,7 @@ held_aggregation holds tree a class r sound none h =
     let records = tree.records in
     let ys : List Aggregation = edited xs a (with_class class) in
     let above : above_in ys records r ≡ above_in xs records r = above-edited xs records a (with_class class) (λ _. refl) r in
-    elim (class_follows xs records a class r (placed_in xs sound.forest sound.names.root_classes) (container_fits tree sound r (numbered records r) refl)) [
+    elim (class_follows xs records a class r (placed_in xs sound.forest sound.names.root_classes) (aggregation_fits tree sound r (numbered records r) refl)) [
       | inl same ↦ (λ i. held_in holds r (above i) (same i)) ∙ h
       | inr same ↦ ap (λ numbers. held_in holds r numbers (class_in ys records r)) above
           ∙ held_leaving holds r (above_in xs records r) (class_in xs records r) (class_in ys records r) (sym (λ i. leaves_held holds (same.0 i) (same.1 i)) ∙ none) h

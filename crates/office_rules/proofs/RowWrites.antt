@@ -32,7 +32,7 @@ written s (row_write.Record number head status) e h =
     λ i. record (rows_of s) { records = rows i }
 written s (row_write.Event number event) e h = λ i. record (rows_of s) { events = entries-insert nat_cmp_total s.office.tree.events number event i }
 written s (row_write.Content number bytes) e h = λ i. record (rows_of s) { contents = entries-insert nat_cmp_total s.contents number bytes.items i }
-written s (row_write.ContentGone number) e h = λ i. record (rows_of s) { contents = entries-remove nat_cmp_total nat_cmp-IsAntisymmetric s.contents number i }
+written s (row_write.DeleteContent number) e h = λ i. record (rows_of s) { contents = entries-remove nat_cmp_total nat_cmp-IsAntisymmetric s.contents number i }
 written s (row_write.Hold code hold) e h =
     let holds = s.office.holds in
     let rows = rows_by-insert code_cmp hold_row nat_list_cmp_total holds code (hold_from hold (get holds code)) ∙ ap (λ row. put code_cmp code row (rows_of s).holds) (hold_from-row hold (get holds code)) in
@@ -40,7 +40,7 @@ written s (row_write.Hold code hold) e h =
 written s (row_write.Target code new) e h =
     let holds = s.office.holds in
     λ i. record (rows_of s) { holds = rows_by-amended code_cmp hold_row nat_list_cmp_total codes_apart holds code (with_target new) (with_target-row new) i; targets = targets_of-put holds code new h i }
-written s (row_write.TargetGone code gone) e h =
+written s (row_write.RemoveTarget code gone) e h =
     let holds = s.office.holds in
     λ i. record (rows_of s) { holds = rows_by-amended code_cmp hold_row nat_list_cmp_total codes_apart holds code (without_target gone) (without_target-row gone) i; targets = targets_of-gone holds code gone i }
 written s (row_write.Run number run) e h = λ i. record (rows_of s) { runs = numbered_rows-put s.office.runs number run h.0 h.1 i }
@@ -63,7 +63,7 @@ put_has_place s (row_write.Schedule code schedule) h = tt
 put_has_place s (row_write.Class code class) h = tt
 put_has_place s (row_write.Event number event) h = tt
 put_has_place s (row_write.Hold code hold) h = tt
-put_has_place s (row_write.TargetGone hold target) h = tt
+put_has_place s (row_write.RemoveTarget hold target) h = tt
 put_has_place s (row_write.Entry entry) h = tt
 put_has_place s (row_write.Certificate run text) h = tt
 put_has_place s w h = absurd h
@@ -72,7 +72,7 @@ pub follow_has_place : (s : State) (w : RowWrite) → CanFollow s.office w → H
 follow_has_place s (row_write.Record number head status) h = (h.0, omega (arith, h.1))
 follow_has_place s (row_write.Run number run) h = (h.0, omega (arith, h.1))
 follow_has_place s (row_write.Content number bytes) h = tt
-follow_has_place s (row_write.ContentGone number) h = tt
+follow_has_place s (row_write.DeleteContent number) h = tt
 follow_has_place s (row_write.Day day) h = tt
 follow_has_place s w h = absurd h
 

@@ -52,9 +52,9 @@ class_by : (tree : TreeState) → ArePlaced tree.aggregations → NamesExist tre
 class_by tree placed names r head (Some code) e own =
     (code, class_own tree.aggregations tree.records r head code e own, named_is tree.classes head.class code own (names.record_classes r head e))
 class_by tree placed names r head None e own =
-    let container = names.containers r head e in
-    let of_container = class_from tree placed names head.aggregation head.aggregation container.0 (omega arith) container.1 in
-    (of_container.0, class_above tree.aggregations tree.records r head e own ∙ of_container.1, of_container.2)
+    let aggregation = names.containers r head e in
+    let of_aggregation = class_from tree placed names head.aggregation head.aggregation aggregation.0 (omega arith) aggregation.1 in
+    (of_aggregation.0, class_above tree.aggregations tree.records r head e own ∙ of_aggregation.1, of_aggregation.2)
 
 pub class_there : (tree : TreeState) → IsForest tree.aggregations → NamesExist tree.schedules tree.classes tree.aggregations tree.records → (r : ℕ) (head : Record) → numbered tree.records r ≡ Some head → IsThere tree.classes (class_of tree r)
 class_there tree forest names r head e = class_by tree (placed_in tree.aggregations forest names.root_classes) names r head head.class e refl

@@ -62,8 +62,8 @@ pub second_root_added : IsAccepted (refusals_of_add_aggregation (with_root class
 second_root_added = ap (λ o. first_of (root_table (is_some o))) legal_there
 
 -- the table of a record by what is asked for
-adding : (s : Office) (new : NewRecord) (name words : List ℕ) (container : ℕ) (bytes : List ℕ) → AsksFor new name words container bytes → first_of (refusals_of_add_record s filing_day new) ≡ first_of (dated s filing_day (conditions_of_add_record s.tree name container None None))
-adding s new name words container bytes h =
+adding : (s : Office) (new : NewRecord) (name words : List ℕ) (parent : ℕ) (bytes : List ℕ) → AsksFor new name words parent bytes → first_of (refusals_of_add_record s filing_day new) ≡ first_of (dated s filing_day (conditions_of_add_record s.tree name parent None None))
+adding s new name words parent bytes h =
     λ i. first_of (dated s filing_day (conditions_of_add_record s.tree (h.ref_text i) (h.aggregation i) (h.class i) (h.schedule i)))
 
 pub first_record_added : (new : NewRecord) → AsksFor new (codes "r1") (codes "r1") 1 (codes "abc") → IsAccepted (refusals_of_add_record rooted_office filing_day new)
@@ -75,8 +75,8 @@ second_record_added new h = adding first_filed new (codes "r2") (codes "r2") 2 [
 pub third_record_added : (new : NewRecord) → AsksFor new (codes "r3") (codes "r3") 1 (codes "abc") → IsAccepted (refusals_of_add_record second_filed filing_day new)
 third_record_added new h = adding second_filed new (codes "r3") (codes "r3") 1 (codes "abc") h
 
-pub filed : (s : Office) (new : NewRecord) (name : List ℕ) (container : ℕ) (bytes : List ℕ) → AsksFor new name name container bytes → after_add_record s filing_day new ≡ with_record s name container bytes
-filed s new name container bytes h =
+pub filed : (s : Office) (new : NewRecord) (name : List ℕ) (parent : ℕ) (bytes : List ℕ) → AsksFor new name name parent bytes → after_add_record s filing_day new ≡ with_record s name parent bytes
+filed s new name parent bytes h =
     λ i. with_tree s filing_day (added_record s.tree (record {
       ref_text = h.ref_text i;
       title = h.title i;

@@ -19,12 +19,12 @@ use Rattle.office_rules.proofs.WorkedTransfer.{fails}
 
 -- the comparison with a head, reported by what is asked
 abbrev compared : List ℕ → List ℕ → ℕ → List ℕ → Record → Bool
-compared name words container bytes head =
+compared name words parent bytes head =
     bytes_eq name head.ref_text && bytes_eq words head.title && int_eq filing_day head.originated
-    && container == head.aggregation && length bytes == head.length && bytes_eq (sha256 bytes) head.digest
+    && parent == head.aggregation && length bytes == head.length && bytes_eq (sha256 bytes) head.digest
 
-compares : (new : NewRecord) (name words : List ℕ) (container : ℕ) (bytes : List ℕ) (head : Record) → AsksFor new name words container bytes → is_same_record new head ≡ compared name words container bytes head
-compares new name words container bytes head h =
+compares : (new : NewRecord) (name words : List ℕ) (parent : ℕ) (bytes : List ℕ) (head : Record) → AsksFor new name words parent bytes → is_same_record new head ≡ compared name words parent bytes head
+compares new name words parent bytes head h =
     λ i. bytes_eq (h.ref_text i) head.ref_text && bytes_eq (h.title i) head.title && int_eq (h.originated i) head.originated
     && h.aggregation i == head.aggregation && length (h.content i) == head.length && bytes_eq (sha256 (h.content i)) head.digest
 

@@ -1,5 +1,5 @@
 -- Why each act is refused: for each of the eighteen one table of its conditions, in the order of the refusals' numbers,
--- of which the first that holds is answered. A condition about a thing that is not there is false. Source: own.
+-- of which the first that holds is answered. A condition about an entity that is not there is false. Source: own.
 use Rattle.std.specs.Prelude.{ℕ, Bool, ◌&&◌, ◌||◌, ◌==◌, suc, not, int_lt, List, [], ◌∷◌, length, nat_le, Option, Some, None, ℤ, if◌then◌else◌}
 use Rattle.std.specs.Option.{is_some, is_none}
 use Rattle.std.specs.Ordering.{int_eq}

@@ -74,8 +74,8 @@ abbrev pub AreRunsBy : List Run → ℤ → Type 0
 AreRunsBy runs last = (n : ℕ) (it : Run) → numbered runs n ≡ Some it → it.day ≤ℤ last
 
 -- the keys are the numbers of exactly the records that are not ended
-abbrev pub AreKeysOfLive : {V : Type 0} → List Status → FinMap nat_cmp V → Type 0
-AreKeysOfLive statuses keys =
+abbrev pub AreActiveKeys : {V : Type 0} → List Status → FinMap nat_cmp V → Type 0
+AreActiveKeys statuses keys =
     (r : ℕ) → IsSome (get keys r) ↔ ((status : Status) × (numbered statuses r ≡ Some status) × (status ≢ Ended))
 
 -- each entry is under its own run and record
@@ -93,7 +93,7 @@ pub record IsOfficeBy (s : Office) : Type 0 where
 pub record ArePartsSound {V : Type 0} (s : Office) (marks : FinMap nat_cmp V) : Type 0 where
   pub targets : TargetsExist s.holds s.tree.classes (length s.tree.aggregations) (length s.tree.records)
   pub runs : RunsAgree s.runs s.certificates
-  pub live : AreKeysOfLive s.tree.statuses marks
+  pub active : AreActiveKeys s.tree.statuses marks
   pub entries : All (λ e. is_entry_right s e ≡ true) (values s.entries)
 
 -- the parts of an office agree with each other

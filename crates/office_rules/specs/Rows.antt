@@ -102,12 +102,12 @@ write_rows (row_write.Record number head status) t =
     record t { records = put nat_cmp number (record_row head status) t.records }
 write_rows (row_write.Event number event) t = record t { events = put nat_cmp number event t.events }
 write_rows (row_write.Content number bytes) t = record t { contents = put nat_cmp number bytes.items t.contents }
-write_rows (row_write.ContentGone number) t =
+write_rows (row_write.DeleteContent number) t =
     record t { contents = where_key nat_cmp (λ n. not (eq_by_cmp nat_cmp number n)) t.contents }
 write_rows (row_write.Hold code hold) t = record t { holds = put code_cmp code hold t.holds }
 write_rows (row_write.Target hold target) t =
     record t { targets = λ code other. is_pair hold target code other || t.targets code other }
-write_rows (row_write.TargetGone hold target) t =
+write_rows (row_write.RemoveTarget hold target) t =
     record t { targets = λ code other. not (is_pair hold target code other) && t.targets code other }
 write_rows (row_write.Run number run) t = record t { runs = put nat_cmp number run t.runs }
 write_rows (row_write.Entry entry) t =

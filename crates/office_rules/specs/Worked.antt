@@ -89,11 +89,11 @@ abbrev pub base_office : Office
 base_office = with_record second_filed (codes "r3") 1 (codes "abc")
 
 -- what is asked for with such a record, under a title that may be another
-pub record AsksFor (new : NewRecord) (name words : List ℕ) (container : ℕ) (bytes : List ℕ) : Type 0 where
+pub record AsksFor (new : NewRecord) (name words : List ℕ) (parent : ℕ) (bytes : List ℕ) : Type 0 where
   pub ref_text : new.ref_text ≡ name
   pub title : new.title ≡ words
   pub originated : new.originated ≡ filing_day
-  pub aggregation : new.aggregation ≡ container
+  pub aggregation : new.aggregation ≡ parent
   pub class : new.class ≡ None
   pub schedule : new.schedule ≡ None
   pub content : new.content ≡ bytes

@@ -25,10 +25,10 @@ write_office (row_write.Aggregation number aggregation) s =
 write_office (row_write.Record number head status) s = record s { tree = put_record s.tree number head status }
 write_office (row_write.Event number event) s = record s { tree = put_event s.tree number event }
 write_office (row_write.Content number bytes) s = s
-write_office (row_write.ContentGone number) s = s
+write_office (row_write.DeleteContent number) s = s
 write_office (row_write.Hold code hold) s = record s { holds = put_hold s.holds code hold }
 write_office (row_write.Target hold target) s = record s { holds = held_on s.holds hold target }
-write_office (row_write.TargetGone hold target) s = record s { holds = held_off s.holds hold target }
+write_office (row_write.RemoveTarget hold target) s = record s { holds = held_off s.holds hold target }
 write_office (row_write.Run number run) s = record s { runs = put s.runs number run }
 write_office (row_write.Entry entry) s = record s { entries = insert s.entries (entry.run, entry.record_no) entry }
 write_office (row_write.Certificate run text) s =
@@ -38,7 +38,7 @@ write_office (row_write.Day day) s = record s { day = day }
 -- contents with one put in or taken away
 abbrev pub write_contents : RowWrite → ByteMap → ByteMap
 write_contents (row_write.Content number bytes) contents = insert contents number bytes.items
-write_contents (row_write.ContentGone number) contents = remove contents number
+write_contents (row_write.DeleteContent number) contents = remove contents number
 write_contents _ contents = contents
 
 abbrev pub write : RowWrite → State → State
@@ -69,7 +69,7 @@ CanPut s (row_write.Record number head status) =
 CanPut s (row_write.Event number event) = IsTrue (has_record s.tree number)
 CanPut s (row_write.Hold code hold) = FitsHoldLimits (put_hold s.holds code hold) × StaysLifted s.holds code hold
 CanPut s (row_write.Target hold target) = IsSome (get s.holds hold) × FitsHoldLimits (held_on s.holds hold target)
-CanPut s (row_write.TargetGone hold target) = Unit {0}
+CanPut s (row_write.RemoveTarget hold target) = Unit {0}
 CanPut s (row_write.Run number run) = (0 < number) × (number ≤ length s.runs + 1)
 CanPut s (row_write.Entry entry) = Unit {0}
 CanPut s (row_write.Certificate run text) = Unit {0}
@@ -85,7 +85,7 @@ abbrev pub CanFollow : Office → RowWrite → Type 0
 CanFollow s (row_write.Record number head status) = (0 < number) × (number ≤ length s.tree.records) × tree.IsSound (put_record s.tree number head status) × HasHead s number head
 CanFollow s (row_write.Run number run) = (0 < number) × (number ≤ length s.runs)
 CanFollow s (row_write.Content number bytes) = Unit {0}
-CanFollow s (row_write.ContentGone number) = Unit {0}
+CanFollow s (row_write.DeleteContent number) = Unit {0}
 CanFollow s (row_write.Day day) = Unit {0}
 CanFollow s _ = ⊥
 

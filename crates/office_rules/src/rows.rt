@@ -114,7 +114,7 @@ pub enum RowWrite {
         number: RecordNo,
         bytes: Vec<u8>,
     },
-    ContentGone {
+    DeleteContent {
         number: RecordNo,
     },
     Hold {
@@ -125,7 +125,7 @@ pub enum RowWrite {
         hold: Code,
         target: Target,
     },
-    TargetGone {
+    RemoveTarget {
         hold: Code,
         target: Target,
     },

@@ -3,7 +3,7 @@ use Rattle.std.proofs.Common.{◌≡◌, drop, false, refl}
 use Rattle.std.specs.List.{AllByRecursion}
 use Rattle.sqlite_schema.specs.declared.schema.Table.{Table}
 use Rattle.sqlite_tied.specs.Compute.{everything}
-use Rattle.office_sql.specs.Editions.{version_2}
+use Rattle.office_sql.specs.SchemaVersions.{version_2}
 use Rattle.office_sql.specs.Schema.{office, schedules, classes, aggregations, records, contents, holds, targets, runs, entries, certificates, schedules2}
 use Rattle.office_sql.proofs.Grown.{clashes}
 

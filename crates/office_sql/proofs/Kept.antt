@@ -20,7 +20,7 @@ use Rattle.sqlite_catalog.specs.Listing.{IsIndexRow, IsTableRow}
 use Rattle.sqlite_catalog.proofs.LayoutLemmas.{zipped_left}
 use Rattle.sqlite.specs.Effect.{Database, IsDatabase}
 use Rattle.office_sql.specs.Bags.{rows_of, shown, tree_in}
-use Rattle.office_sql.specs.Editions.{version_2}
+use Rattle.office_sql.specs.SchemaVersions.{version_2}
 use Rattle.office_sql.specs.Office.{HasTable, HasTables, KeepsOthers, SparesOthers, SparesRest, tree_of}
 use Rattle.office_sql.specs.Schema.{at}
 use Rattle.office_sql.proofs.TableThere.{Representing, finds_it, itself, representing}

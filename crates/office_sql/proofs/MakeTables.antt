@@ -2,7 +2,7 @@
 use Rattle.std.proofs.Common.{ℕ, suc, drop, take, [], Ok, Result, OnOk, OnErr, IsTrue, refl}
 use Rattle.sqlite.specs.State.{ExecutesInside, HasCleanDisk, KeepsCommit, State, Survives}
 use Rattle.sqlite.specs.declared.error.Error.{Error}
-use Rattle.office_sql.specs.Editions.{version_2}
+use Rattle.office_sql.specs.SchemaVersions.{version_2}
 use Rattle.office_sql.specs.Made.{GrowsTo, IsMadeUpTo, MakesInside}
 use Rattle.office_sql.specs.Schema.{office, schedules, classes, aggregations, records, contents, holds, targets, runs, entries, certificates, schedules2, events}
 use Rattle.office_sql.specs.Tables.{create_of, made_before}

@@ -14,10 +14,10 @@ use Rattle.sqlite.specs.Effect.{Database}
 use Rattle.sqlite.specs.State.{State, Survives}
 use Rattle.sqlite.specs.declared.error.Error.{Error}
 use Rattle.office_sql.specs.Bags.{rows_of, share}
-use Rattle.office_sql.specs.Editions.{later_tables, version_1, version_2}
+use Rattle.office_sql.specs.SchemaVersions.{later_tables, version_1, version_2}
 use Rattle.office_sql.specs.Made.{GrowsTo, IsMadeUpTo, MakesInside}
 use Rattle.office_sql.specs.Migrated.{IsMigrated, IsNoneOfThree, IsReadyToMove, Moved, MovedOver, Raised}
-use Rattle.office_sql.specs.declared.editions.Edition.TheVariants as edition
+use Rattle.office_sql.specs.declared.schema_versions.SchemaVersion.TheVariants as schema_version
 use Rattle.office_sql.specs.Office.{GoesInside, IsOffice, IsOfficeOf, KeepsOthers, Removed, SparesRest}
 use Rattle.office_sql.specs.Schema.{at, events, office, schedules, schedules2}
 use Rattle.office_sql.proofs.Inside.{early, quiet_then}
@@ -101,7 +101,7 @@ still_ready day old new made ready = record {
 not_later : AllByRecursion (λ (t : Table). bytes_eq t.name schedules2.name ≡ false) version_1
 not_later = (refl, (refl, (refl, (refl, (refl, (refl, (refl, (refl, (refl, (refl, (refl, tt)))))))))))
 
-pub migrated : (day : ℤ) (a b c : Database) → IsOfficeOf edition.One a → GrowsTo 11 13 a b → MovedOver day b c → IsMigrated day a c
+pub migrated : (day : ℤ) (a b c : Database) → IsOfficeOf schema_version.One a → GrowsTo 11 13 a b → MovedOver day b c → IsMigrated day a c
 migrated day a b c was made over = record {
   is_office = over.is_office;
   row = over.row;
@@ -116,7 +116,7 @@ migrated day a b c was made over = record {
 
 -- the later tables are made, and the schedules moved over
 pub migrates_then : (day : ℤ) (a b c : State) {X Y : Type 0} {x : X} (r : Result Y Error) → IsReadyToMove day a.now.trees → MakesInside (IsMadeUpTo 11) (GrowsTo 11 13) a b (Ok x) → Survives b c (λ _. ⊥)
-    → (rows_of schedules2 b.now.trees ≡ [] → IsReadyToMove day b.now.trees → GoesInside version_2 (MovedOver day) b c r) → MakesInside (IsOfficeOf edition.One) (IsMigrated day) a c r
+    → (rows_of schedules2 b.now.trees ≡ [] → IsReadyToMove day b.now.trees → GoesInside version_2 (MovedOver day) b c r) → MakesInside (IsOfficeOf schema_version.One) (IsMigrated day) a c r
 migrates_then day a b c (Ok y) ready made quiet over = record {
   ok = λ clean was_open inside was.
       let m = made.ok (early b c quiet clean) was_open inside (record { has = was.has; room = was.room }) in

@@ -1,7 +1,7 @@
 -- Each table is one of version 2.
 use Rattle.std.proofs.Common.{inl, inr, refl}
 use Rattle.sqlite_rules.specs.Lists.{Has}
-use Rattle.office_sql.specs.Editions.{version_2}
+use Rattle.office_sql.specs.SchemaVersions.{version_2}
 use Rattle.office_sql.specs.Schema.{office, schedules, classes, aggregations, records, contents, holds, targets, runs, entries, certificates, schedules2, events}
 
 pub has_office : Has version_2 office

@@ -22,7 +22,7 @@ use Rattle.sqlite.specs.Listing.{understood}
 use Rattle.sqlite.specs.State.{State, mode_of, Executes}
 use Rattle.sqlite.proofs.Callers.{one_permutation, one_step, runs_as, statement_of}
 use Rattle.office_sql.specs.Bags.{rows_of, shown, tree_in}
-use Rattle.office_sql.specs.Editions.{version_2}
+use Rattle.office_sql.specs.SchemaVersions.{version_2}
 use Rattle.office_sql.specs.Migrated.{Raised}
 use Rattle.office_sql.specs.Office.{HasTables, SparesOthers, tree_of}
 use Rattle.office_sql.specs.Schema.{at, office, schedules}

@@ -8,7 +8,7 @@ use Rattle.sqlite_rules.specs.Lists.{Has}
 use Rattle.sqlite.specs.Effect.{Database, IsDatabase}
 use Rattle.sqlite.specs.State.{State}
 use Rattle.office_sql.specs.Office.{IsAlone, IsAtRestOver, IsUnlisted, KeepsAsides, KeepsObjects, KeepsRest, Leaves, SparesRest}
-use Rattle.office_sql.specs.declared.editions.Edition.{Edition}
+use Rattle.office_sql.specs.declared.schema_versions.SchemaVersion.{SchemaVersion}
 
 pub spares_none : (d : Database) → SparesRest d d
 spares_none d = record { schema = refl; rows = λ u here other. refl; unlisted = λ tree is. refl }
@@ -60,11 +60,11 @@ leaves_one Is d db sound is same =
     subst (λ (t : Trees). (schema : Schema) × IsDatabase (record { schema = schema; trees = t }) × Is (record { schema = schema; trees = t })) (sym same) (d.schema, sound, is)
 
 -- between calls a crash leaves just what is there
-pub leaves_at_rest : (e : Edition) (Is : Database → Type 0) (s : State) → IsAtRestOver e s → Is s.now → Leaves Is s
+pub leaves_at_rest : (e : SchemaVersion) (Is : Database → Type 0) (s : State) → IsAtRestOver e s → Is s.now → Leaves Is s
 leaves_at_rest e Is s rest is db may = leaves_one Is s.now db rest.office.has.database is (rest.only db may)
 
 -- and, where what is left is of the kind of one call after another, the calls compose
-pub leaves_then : (e : Edition) (old mid new : State) → IsAtRestOver e mid → Leaves (SparesRest old.now) mid → Leaves (SparesRest mid.now) new → Leaves (SparesRest old.now) new
+pub leaves_then : (e : SchemaVersion) (old mid new : State) → IsAtRestOver e mid → Leaves (SparesRest old.now) mid → Leaves (SparesRest mid.now) new → Leaves (SparesRest old.now) new
 leaves_then e old mid new rest first next db may =
     let was = first mid.now.trees rest.stays in
     let same : was.0 ≡ mid.now.schema = same_schema was.0 mid.now.schema mid.now.trees was.1 rest.office.has.database in
@@ -73,7 +73,7 @@ leaves_then e old mid new rest first next db may =
     (left.0, left.1, spares_then old.now mid.now _ spared left.2)
 
 -- what one call keeps is kept where the next spares it
-pub leaves_kept : (e : Edition) (old mid new : State) → IsAtRestOver e mid → Leaves (KeepsRest old.now) mid → Leaves (SparesRest mid.now) new → Leaves (KeepsRest old.now) new
+pub leaves_kept : (e : SchemaVersion) (old mid new : State) → IsAtRestOver e mid → Leaves (KeepsRest old.now) mid → Leaves (SparesRest mid.now) new → Leaves (KeepsRest old.now) new
 leaves_kept e old mid new rest first next db may =
     let was = first mid.now.trees rest.stays in
     let same : was.0 ≡ mid.now.schema = same_schema was.0 mid.now.schema mid.now.trees was.1 rest.office.has.database in

@@ -14,7 +14,7 @@ use Rattle.sqlite.specs.Listing.{understood}
 use Rattle.sqlite.specs.Given.{IsPlain}
 use Rattle.sqlite.proofs.Callers.{command_of, statement_of}
 use Rattle.office_sql.specs.Bags.{rows_of}
-use Rattle.office_sql.specs.Editions.{version_2}
+use Rattle.office_sql.specs.SchemaVersions.{version_2}
 use Rattle.office_sql.specs.Office.{HasRoom, HasRoomBeside, HasTables, KeepsAsides, KeepsObjects}
 
 -- under this schema the text makes this table

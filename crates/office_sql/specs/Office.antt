@@ -22,11 +22,11 @@ use Rattle.sqlite.specs.Effect.{Database, IsDatabase}
 use Rattle.sqlite.specs.State.{State, HasCleanDisk, KeepsCommit, Survives}
 use Rattle.sqlite.specs.declared.error.Error.{Error}
 use Rattle.office_sql.specs.Bags.{rows_of, share, IsPut}
-use Rattle.office_sql.specs.Editions.{later_tables, tables_of, version_2}
+use Rattle.office_sql.specs.SchemaVersions.{later_tables, tables_of, version_2}
 use Rattle.office_sql.specs.Schema.{at, office}
 use Rattle.office_sql.specs.Shown.{office_row}
-use Rattle.office_sql.specs.declared.editions.Edition.{Edition}
-use Rattle.office_sql.specs.declared.editions.Edition.TheVariants as edition
+use Rattle.office_sql.specs.declared.schema_versions.SchemaVersion.{SchemaVersion}
+use Rattle.office_sql.specs.declared.schema_versions.SchemaVersion.TheVariants as schema_version
 
 -- the tree of the table that has this name
 unfoldable pub tree_of : Schema → List ℕ → ℕ
@@ -68,22 +68,22 @@ pub record IsBare (db : Database) : Type 0 where
   pub room : HasRoom version_2 db.schema
 
 -- version 1 has room for the tables of version 2
-abbrev pub HasRoomBy : Edition → Schema → Type 0
-HasRoomBy edition.One s = HasRoom later_tables s
-HasRoomBy edition.Two s = Unit {0}
+abbrev pub HasRoomBy : SchemaVersion → Schema → Type 0
+HasRoomBy schema_version.One s = HasRoom later_tables s
+HasRoomBy schema_version.Two s = Unit {0}
 
 -- the database has the office's tables of that version, beside whatever else
-pub record IsOfficeOf (e : Edition) (db : Database) : Type 0 where
+pub record IsOfficeOf (e : SchemaVersion) (db : Database) : Type 0 where
   pub has : HasTables (tables_of e) db
   pub room : HasRoomBy e db.schema
 
 -- the trees are those of such a database; its schema is one alone, which they list
-abbrev pub IsOfficeIn : Edition → Trees → Type 0
+abbrev pub IsOfficeIn : SchemaVersion → Trees → Type 0
 IsOfficeIn e trees = (schema : Schema) × IsOfficeOf e (record { schema = schema; trees = trees })
 
 -- an office's tables of version 2
 abbrev pub IsOffice : Database → Type 0
-IsOffice db = IsOfficeOf edition.Two db
+IsOffice db = IsOfficeOf schema_version.Two db
 
 -- a table that is none of the office's, by its name
 abbrev pub IsOtherTable : Table → Type 0
@@ -180,7 +180,7 @@ PutsInto table keys row old new result =
 
 -- between calls over tables of that version: open, outside a transaction, and a crash leaves just what the last commit
 -- left
-pub record IsAtRestOver (e : Edition) (s : State) : Type 0 where
+pub record IsAtRestOver (e : SchemaVersion) (s : State) : Type 0 where
   pub is_open : IsTrue s.is_open
   pub autocommit : s.in_transaction ≡ false
   pub settled : s.now ≡ s.committed
@@ -190,7 +190,7 @@ pub record IsAtRestOver (e : Edition) (s : State) : Type 0 where
 
 -- over those of version 2
 abbrev pub IsAtRest : State → Type 0
-IsAtRest s = IsAtRestOver edition.Two s
+IsAtRest s = IsAtRestOver schema_version.Two s
 
 -- the same of a database that has room for an office, whatever else it has
 pub record IsBlank (s : State) : Type 0 where

@@ -4,11 +4,11 @@ ghost use Rattle.std.specs.List.{AllByRecursion};
 ghost use Rattle.sqlite.specs.Held.{state};
 ghost use Rattle.sqlite.specs.State.{HasCleanDisk, Survives};
 ghost use Rattle.office_sql.specs.Bags.{rows_of};
-ghost use Rattle.office_sql.specs.Editions.{version_2};
+ghost use Rattle.office_sql.specs.SchemaVersions.{version_2};
 ghost use Rattle.office_sql.specs.Migrated.{IsMigrated, IsReadyToMove, IsScheduleRow, Migrates, Moved, MovedOver, Raised};
 ghost use Rattle.office_sql.specs.Made.{MakesInside};
 ghost use Rattle.office_sql.specs.Office.{GoesInside, IsOfficeOf, Removed};
-ghost use Rattle.office_sql.specs.declared.editions.Edition.TheVariants as edition;
+ghost use Rattle.office_sql.specs.declared.schema_versions.SchemaVersion.TheVariants as schema_version;
 ghost use Rattle.office_sql.specs.Schema.{office, schedules, schedules2};
 ghost use Rattle.office_sql.specs.Shown.{office_row};
 
@@ -79,8 +79,8 @@ fn migrate_in<S: Alter>(tx: &mut Transaction<'_, S>) -> Result<(), Error>
     ensures quiet { Survives (state S.Store tx.old.conn.now) (state S.Store tx.new.conn.now)
         (λ _. ⊥) }
     ensures migrated { (day : ℤ) → IsReadyToMove day (state S.Store tx.old.conn.now).now.trees
-        → MakesInside (IsOfficeOf edition.One) (IsMigrated day) (state S.Store tx.old.conn.now)
-        (state S.Store tx.new.conn.now) result }
+        → MakesInside (IsOfficeOf schema_version.One) (IsMigrated day)
+        (state S.Store tx.old.conn.now) (state S.Store tx.new.conn.now) result }
 {
     create_later(tx)?;
     move_over(tx)

@@ -1,15 +1,15 @@
 -- One table more has rows of its form, after those that are taken in before it. Source: own.
 use Rattle.std.proofs.Common.{All, map, take}
 use Rattle.sqlite_trees.specs.Tree.{Trees}
-use Rattle.office_store.specs.Encoded.{entry_shown}
+use Rattle.office_store.specs.Encoded.{encoded_entry}
 use Rattle.office_sql.specs.Bags.{rows_of}
-use Rattle.office_sql.specs.Editions.{schedules_of}
-use Rattle.office_sql.specs.declared.editions.Edition.{Edition}
+use Rattle.office_sql.specs.SchemaVersions.{schedules_of}
+use Rattle.office_sql.specs.declared.schema_versions.SchemaVersion.{SchemaVersion}
 use Rattle.office_sql.specs.Schema.{aggregations, certificates, classes, contents, entries, holds, records, runs, targets}
 use Rattle.office_store.specs.RepresentsRows.{events_in}
 use Rattle.office_store.specs.Stored.{AreReadable, IsAggregationPair, IsCertificateRow, IsClassPair, IsEntryOfForm, IsEventPair, IsHoldPair, IsNumber, IsRecordPair, IsRowOf, IsRunPair, IsSchedulePair, IsTargetPair, aggregation_pair, class_pair, event_pair, hold_pair, number_row, record_pair, run_pair, schedule_pair, target_pair}
 
-module _ (ed : Edition) (db : Trees) where
+module _ (ed : SchemaVersion) (db : Trees) where
   pub schedules_readable : AreReadable ed 1 db → All (IsRowOf schedule_pair IsSchedulePair) (rows_of (schedules_of ed) db) → AreReadable ed 2 db
   schedules_readable were all = record {
     schedules = λ below. all;
@@ -145,7 +145,7 @@ module _ (ed : Edition) (db : Trees) where
     certificates = were.certificates;
   }
 
-  pub entries_readable : AreReadable ed 10 db → All (IsRowOf entry_shown IsEntryOfForm) (rows_of entries db) → AreReadable ed 11 db
+  pub entries_readable : AreReadable ed 10 db → All (IsRowOf encoded_entry IsEntryOfForm) (rows_of entries db) → AreReadable ed 11 db
   entries_readable were all = record {
     schedules = were.schedules;
     classes = were.classes;

@@ -13,19 +13,19 @@ use Rattle.office_rules.specs.Rows.{TableRows, rows_of}
 use Rattle.office_rules.specs.Sound.{IsSound}
 use Rattle.office_rules.specs.State.{State}
 use Rattle.office_rules.specs.Tables.{Begins, IsPrefix, Represents, TableLists}
-use Rattle.office_sql.specs.Editions.{schedules_table}
-use Rattle.office_sql.specs.declared.editions.Edition.{Edition}
-use Rattle.office_sql.specs.declared.editions.Edition.TheVariants as edition
+use Rattle.office_sql.specs.SchemaVersions.{schedules_table}
+use Rattle.office_sql.specs.declared.schema_versions.SchemaVersion.{SchemaVersion}
+use Rattle.office_sql.specs.declared.schema_versions.SchemaVersion.TheVariants as schema_version
 use Rattle.office_sql.specs.Reads.{IsByKey, bag_of, key_of}
 use Rattle.office_sql.specs.declared.tables.OfficeTable.{OfficeTable}
 use Rattle.office_sql.specs.declared.tables.OfficeTable.TheVariants as table
-use Rattle.office_store.specs.Encoded.{entry_shown}
+use Rattle.office_store.specs.Encoded.{encoded_entry}
 use Rattle.office_store.specs.Adopted.{HoldNoOffice}
 use Rattle.office_store.specs.RepresentsRows.{RepresentsRowsIn, events_in}
 use Rattle.office_store.specs.Stored.{AllReadable, IsCertificateRow, IsRowOf, IsSchedulePair, aggregation_pair, class_pair, event_pair, hold_pair, number_row, record_pair, run_pair, schedule_pair, target_pair, text_row}
 use Rattle.office_store.specs.Taken.{HaveCome, HaveEventsCome, HaveRowsCome, IsPrefixOfNone}
 use Rattle.office_store.proofs.WellFormedRows.{well_formed_records, own_entries, short_in_rows}
-use Rattle.office_store.proofs.EditionTables.{all_schedules_too, schedules_by_key}
+use Rattle.office_store.proofs.SchemaVersionTables.{all_schedules_too, schedules_by_key}
 use Rattle.office_store.proofs.ReadTables.{read_aggregations, read_certificates, read_classes, read_contents, read_day, read_entries, read_events, read_holds, read_records, read_runs, read_schedules, under_keys}
 use Rattle.office_store.proofs.ReadTargets.{same_targets}
 use Rattle.office_store.proofs.ReadableRows.{rows_readable}
@@ -37,16 +37,16 @@ of_tail P [] tail all = all
 of_tail P (x ∷ prefix) tail all = of_tail P prefix tail all.1
 
 -- what shows no row is nothing
-pub shows_none : {X : Type 0} (shown : X → Row) (xs : List X) → map shown xs ≡ [] → xs ≡ []
-shows_none shown [] none = refl
-shows_none shown (x ∷ xs) none = absurd cc
+pub shows_none : {X : Type 0} (encoded : X → Row) (xs : List X) → map encoded xs ≡ [] → xs ≡ []
+shows_none encoded [] none = refl
+shows_none encoded (x ∷ xs) none = absurd cc
 
-module _ {X : Type 0} (shown : X → Row) where
+module _ {X : Type 0} (encoded : X → Row) where
   abbrev IsShown : Row → Type 0
-  IsShown row = (x : X) × (row ≡ shown x)
+  IsShown row = (x : X) × (row ≡ encoded x)
 
   -- rows that each show a thing are those of a list of things
-  things_of : (rows : List Row) → AllByRecursion IsShown rows → (xs : List X) × (rows ≡ map shown xs)
+  things_of : (rows : List Row) → AllByRecursion IsShown rows → (xs : List X) × (rows ≡ map encoded xs)
   things_of [] all = ([], refl)
   things_of (row ∷ rows) all =
       let rest = things_of rows all.1 in
@@ -54,25 +54,25 @@ module _ {X : Type 0} (shown : X → Row) where
 
   module _ (table : OfficeTable) (db : Trees) (all : All IsShown (bag_of table db)) where
     -- the rows after those that came are those of things too
-    whole_list : (xs : List X) (tail : List Row) → IsByKey (key_of table) (bag_of table db) (map shown xs ++ tail) → (ts : List X) × IsByKey (key_of table) (bag_of table db) (map shown (xs ++ ts))
+    whole_list : (xs : List X) (tail : List Row) → IsByKey (key_of table) (bag_of table db) (map encoded xs ++ tail) → (ts : List X) × IsByKey (key_of table) (bag_of table db) (map encoded (xs ++ ts))
     whole_list xs tail by =
-        let each = recursion_from_All IsShown (map shown xs ++ tail) (All-permutation IsShown (bag_of table db) (map shown xs ++ tail) by.same all) in
-        let rest = things_of tail (of_tail IsShown (map shown xs) tail each) in
-        (rest.0, subst (IsByKey (key_of table) (bag_of table db)) (ap (λ l. map shown xs ++ l) rest.1 ∙ sym (map-append shown xs rest.0)) by)
+        let each = recursion_from_All IsShown (map encoded xs ++ tail) (All-permutation IsShown (bag_of table db) (map encoded xs ++ tail) by.same all) in
+        let rest = things_of tail (of_tail IsShown (map encoded xs) tail each) in
+        (rest.0, subst (IsByKey (key_of table) (bag_of table db)) (ap (λ l. map encoded xs ++ l) rest.1 ∙ sym (map-append encoded xs rest.0)) by)
 
     -- where a table is read as that list, what has come begins it
-    prefix_of : (whole begun : Bool) (xs us : List X) → ((ts : List X) → IsByKey (key_of table) (bag_of table db) (map shown ts) → ts ≡ us) → HaveRowsCome whole begun table db (map shown xs) → IsPrefix xs us
+    prefix_of : (whole begun : Bool) (xs us : List X) → ((ts : List X) → IsByKey (key_of table) (bag_of table db) (map encoded ts) → ts ≡ us) → HaveRowsCome whole begun table db (map encoded xs) → IsPrefix xs us
     prefix_of true begun xs us is come = ([], sym (is xs come) ∙ sym (append-nil xs))
     prefix_of false true xs us is come =
         let list = whole_list xs come.0 come.1 in
         (list.0, sym (is (xs ++ list.0) list.1))
-    prefix_of false false xs us is come = (us, ap (λ l. l ++ us) (sym (shows_none shown xs come)))
+    prefix_of false false xs us is come = (us, ap (λ l. l ++ us) (sym (shows_none encoded xs come)))
 
 -- the events that have come begin those that are read
-prefix_of_events : (ed : Edition) (db : Trees) (all : All (IsShown event_pair) (events_in ed db)) (whole begun : Bool) (xs us : List (ℕ × Event)) → ((ts : List (ℕ × Event)) → IsByKey (0 ∷ []) (events_in ed db) (map event_pair ts) → ts ≡ us)
+prefix_of_events : (ed : SchemaVersion) (db : Trees) (all : All (IsShown event_pair) (events_in ed db)) (whole begun : Bool) (xs us : List (ℕ × Event)) → ((ts : List (ℕ × Event)) → IsByKey (0 ∷ []) (events_in ed db) (map event_pair ts) → ts ≡ us)
     → HaveEventsCome ed whole begun db (map event_pair xs) → IsPrefix xs us
-prefix_of_events edition.One db all whole begun xs us is come = (us, ap (λ l. l ++ us) (sym (shows_none event_pair xs come)))
-prefix_of_events edition.Two db all whole begun xs us is come = prefix_of event_pair table.Events db all whole begun xs us is come
+prefix_of_events schema_version.One db all whole begun xs us is come = (us, ap (λ l. l ++ us) (sym (shows_none event_pair xs come)))
+prefix_of_events schema_version.Two db all whole begun xs us is come = prefix_of event_pair table.Events db all whole begun xs us is come
 
 -- pairs of hold and target that begin with those that have come
 pairs_of : (whole begun : Bool) (db : Trees) (xs others : List (List ℕ × Target)) → All (IsShown target_pair) (bag_of table.Targets db) → IsPermutation (bag_of table.Targets db) (map target_pair others)
@@ -108,7 +108,7 @@ tables_of rows pairs = record {
   certificates = rows.certificates;
 }
 
-module _ {ed : Edition} (s : State) (db : Trees) (sound : IsSound s) (represents : RepresentsRowsIn ed (rows_of s) db) where
+module _ {ed : SchemaVersion} (s : State) (db : Trees) (sound : IsSound s) (represents : RepresentsRowsIn ed (rows_of s) db) where
   tables_represent : (pairs : List (List ℕ × Target)) → IsPermutation (bag_of table.Targets db) (map target_pair pairs) → Represents (tables_of (rows_of s) pairs) s
   unfolding tables_of
   tables_represent pairs same = record {
@@ -130,8 +130,8 @@ module _ {ed : Edition} (s : State) (db : Trees) (sound : IsSound s) (represents
     rows : TableRows
     rows = rows_of s
 
-    formed : {X : Type 0} (shown : X → Row) (IsWellFormed : X → Type 0) (bag : List Row) → All (IsRowOf shown IsWellFormed) bag → All (IsShown shown) bag
-    formed shown IsWellFormed bag = All-weaker (IsRowOf shown IsWellFormed) (IsShown shown) (λ row it. (it.0, it.2)) bag
+    formed : {X : Type 0} (encoded : X → Row) (IsWellFormed : X → Type 0) (bag : List Row) → All (IsRowOf encoded IsWellFormed) bag → All (IsShown encoded) bag
+    formed encoded IsWellFormed bag = All-weaker (IsRowOf encoded IsWellFormed) (IsShown encoded) (λ row it. (it.0, it.2)) bag
 
     they_begin : (t : TableLists) × Represents t s × Begins u t
     unfolding tables_of rows
@@ -153,13 +153,13 @@ module _ {ed : Edition} (s : State) (db : Trees) (sound : IsSound s) (represents
             all_holds = λ some. sym (read_holds rows db order represents u.holds (subst (λ b. HaveRowsCome b (nat_lt 7 begun) table.Holds db (map hold_pair u.holds)) (first some) come.holds));
             targets = pairs.2;
             runs = prefix_of run_pair table.Runs db (formed run_pair _ (bag_of table.Runs db) (all.rows.runs refl)) (nat_lt 9 whole) (nat_lt 9 begun) u.runs rows.runs (read_runs rows db order represents) come.runs;
-            entries = prefix_of entry_shown table.Entries db (formed entry_shown _ (bag_of table.Entries db) (all.rows.entries refl)) (nat_lt 10 whole) (nat_lt 10 begun) u.entries (map (λ e. e.1) rows.entries_by) (read_entries rows db order represents (own_entries s sound)) come.entries;
+            entries = prefix_of encoded_entry table.Entries db (formed encoded_entry _ (bag_of table.Entries db) (all.rows.entries refl)) (nat_lt 10 whole) (nat_lt 10 begun) u.entries (map (λ e. e.1) rows.entries_by) (read_entries rows db order represents (own_entries s sound)) come.entries;
             certificates = prefix_of text_row table.Certificates db (All-weaker IsCertificateRow (IsShown text_row) (λ row it. ((it.0, it.1), it.4)) (bag_of table.Certificates db) (all.rows.certificates refl)) (nat_lt 11 whole) (nat_lt 11 begun) u.certificates rows.certificates (read_certificates rows db order represents) come.certificates;
           },
         )
 
 -- where no tables that begin with the rows that have come represent a state, the tables hold no office
-pub none_held : {ed : Edition} (whole begun : ℕ) → begun ≤ suc whole → (u : TableLists) (db : Trees) → HaveCome ed whole begun u db → IsPrefixOfNone u → HoldNoOffice ed db
+pub none_held : {ed : SchemaVersion} (whole begun : ℕ) → begun ≤ suc whole → (u : TableLists) (db : Trees) → HaveCome ed whole begun u db → IsPrefixOfNone u → HoldNoOffice ed db
 none_held whole begun near u db come none s sound texts represents =
     let it = they_begin s db sound represents (rows_readable s db sound texts represents) whole begun near u come in
     none it.0 it.2 s it.1 sound

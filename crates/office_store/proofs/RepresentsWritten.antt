@@ -40,7 +40,7 @@ HaveOwnKeys entries = (key : ℕ × ℕ) (e : Entry) → get entries key ≡ Som
 -- what a write of a target or of an entry asks of those that there are
 abbrev pub FitsTable : Office → RowWrite → Type 0
 FitsTable s (row_write.Target hold target) = HaveShortTargets s.holds
-FitsTable s (row_write.TargetGone hold target) = HaveShortTargets s.holds
+FitsTable s (row_write.RemoveTarget hold target) = HaveShortTargets s.holds
 FitsTable s (row_write.Entry entry) = HaveOwnKeys s.entries
 FitsTable s _ = Unit {0}
 
@@ -64,13 +64,13 @@ fits_rows s (row_write.Record number head status) free fits = λ e within same.
     let of = head_of s.office.tree.records s.office.tree.statuses found.0 e.1 found.2 in
     free e.0 of.0 (numbered_at s.office.tree.records e.0 found.0 of.0 found.1 of.1) (of.2 ∙ same)
 fits_rows s (row_write.Target hold target) free fits = fits
-fits_rows s (row_write.TargetGone hold target) free fits = fits
+fits_rows s (row_write.RemoveTarget hold target) free fits = fits
 fits_rows s (row_write.Entry entry) free fits = λ e within. fits e.0 e.1 (in_entries entry_total s.office.entries e within)
 fits_rows s (row_write.Schedule code schedule) free fits = tt
 fits_rows s (row_write.Class code class) free fits = tt
 fits_rows s (row_write.Event number event) free fits = tt
 fits_rows s (row_write.Content number bytes) free fits = tt
-fits_rows s (row_write.ContentGone number) free fits = tt
+fits_rows s (row_write.DeleteContent number) free fits = tt
 fits_rows s (row_write.Hold code hold) free fits = tt
 fits_rows s (row_write.Run number run) free fits = tt
 fits_rows s (row_write.Certificate run text) free fits = tt
@@ -87,13 +87,13 @@ follow_fits : (s : State) (w : RowWrite) → CanFollow s.office w → FitsTable 
 follow_fits s (row_write.Record number head status) h = tt
 follow_fits s (row_write.Run number run) h = tt
 follow_fits s (row_write.Content number bytes) h = tt
-follow_fits s (row_write.ContentGone number) h = tt
+follow_fits s (row_write.DeleteContent number) h = tt
 follow_fits s (row_write.Day day) h = tt
 follow_fits s w h = absurd h
 
 put_fits : (s : Office) (w : RowWrite) → HaveShortTargets s.holds → HaveOwnKeys s.entries → FitsTable s w
 put_fits s (row_write.Target hold target) short own = short
-put_fits s (row_write.TargetGone hold target) short own = short
+put_fits s (row_write.RemoveTarget hold target) short own = short
 put_fits s (row_write.Entry entry) short own = own
 put_fits s w short own = tt
 

@@ -7,9 +7,9 @@ use Rattle.office_rules.specs.declared.rows.RecordRow.{RecordRow}
 use Rattle.office_sql.specs.Schema.{records}
 use Rattle.office_sql.specs.Suited.{IsRowFor}
 use Rattle.office_sql.proofs.SuitedShown.{number_or_none, text_or_none}
-use Rattle.office_store.specs.Encoded.{record_shown}
+use Rattle.office_store.specs.Encoded.{encoded_record}
 
-pub record_suits : (number : ℕ) (row : RecordRow) → IsRowFor records (record_shown number row)
+pub record_suits : (number : ℕ) (row : RecordRow) → IsRowFor records (encoded_record number row)
 record_suits number row = record {
   columns = (
     inl (pos number, refl),

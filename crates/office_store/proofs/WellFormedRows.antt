@@ -115,8 +115,8 @@ module _ (s : State) (sound : IsSound s) where
       let within = numbered_within s.office.tree.records e.0 of.0 at in
       let few : IsNumber e.0 = (within.0, omega (arith, within.1, sound.limits.tree_few.records_few)) in
       let there = sound.names.of_tree.containers e.0 of.0 at in
-      let container : IsNumber of.0.aggregation = (there.0, omega (arith, there.1, sound.limits.tree_few.aggregations_few)) in
-      (few, subst IsWellFormedRecordRow of.3 (well_formed_record_row of.0 of.1 (sound.limits.tree_forms.records e.0 of.0 at) container))
+      let aggregation : IsNumber of.0.aggregation = (there.0, omega (arith, there.1, sound.limits.tree_few.aggregations_few)) in
+      (few, subst IsWellFormedRecordRow of.3 (well_formed_record_row of.0 of.1 (sound.limits.tree_forms.records e.0 of.0 at) aggregation))
 
   pub well_formed_events : (e : ℕ × Event) → IsIn (rows_of s).events e → IsEventPair e
   unfolding rows_of

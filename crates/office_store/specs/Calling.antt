@@ -16,8 +16,8 @@ use Rattle.office_rules.specs.declared.change.Change.{Change}
 use Rattle.office_sql.specs.Names.{has_other_table, has_used_name, layout_of}
 use Rattle.office_sql.specs.Office.{HasTables, IsAtRest, IsAtRestOver, IsBlank, KeepsRest, Leaves, SparesRest}
 use Rattle.office_sql.specs.Schema.{office}
-use Rattle.office_sql.specs.declared.editions.Edition.{Edition}
-use Rattle.office_sql.specs.declared.editions.Edition.TheVariants as edition
+use Rattle.office_sql.specs.declared.schema_versions.SchemaVersion.{SchemaVersion}
+use Rattle.office_sql.specs.declared.schema_versions.SchemaVersion.TheVariants as schema_version
 use Rattle.office_store.specs.Adopted.{AreNumbersAndBytes, HoldNoOffice, IsNamed, IsOtherVersion, IsRead, LeavesLess, StaysAtRest}
 use Rattle.office_store.specs.RepresentsRows.{HoldsOldRows, HoldsRows, LeavesFirst, LeavesMoved, LeavesOffices, LeavesWithin}
 use Rattle.office_store.specs.Stored.{AllReadable}
@@ -29,9 +29,9 @@ abbrev pub has_office_table : State → Bool
 has_office_table s = is_some (table_named s.now.schema (codes "office"))
 
 -- the number of the version whose tables are there by their names; 0 where they are neither's
-abbrev pub layout_number : Option Edition → ℕ
-layout_number (Some edition.One) = 1
-layout_number (Some edition.Two) = 2
+abbrev pub layout_number : Option SchemaVersion → ℕ
+layout_number (Some schema_version.One) = 1
+layout_number (Some schema_version.Two) = 2
 layout_number None = 0
 
 -- ---- a new office
@@ -76,7 +76,7 @@ pub record IsNotCreated {S : Type 0} (g : Ghosts S) (conn : Held S) (f : Fault) 
 -- ---- an office that is there
 
 -- its tables came as these rows to what had those, and are as they were
-pub record AreTaken (ed : Edition) (old new : State) (had has : TableLists) : Type 0 where
+pub record AreTaken (ed : SchemaVersion) (old new : State) (had has : TableLists) : Type 0 where
   -- each table is read whole, where no row had come before
   pub read : had ≡ no_rows → IsRead ed has old.now.trees
   -- each row is of its form, and each value within its limit
@@ -86,21 +86,21 @@ pub record AreTaken (ed : Edition) (old new : State) (had has : TableLists) : Ty
   pub same : new.now ≡ old.now
 
 -- its tables were not taken over, by this fault
-pub record AreNotTaken (ed : Edition) (old new : State) (f : Fault) (had : TableLists) (Examines : Type 0) : Type 0
-  where
-    -- damaged tables are no office's; where each row is of its form, what takes them in examines them
-    pub damaged : f ≡ fault.Damaged → had ≡ no_rows → HoldNoOffice ed old.now.trees
-    pub form : f ≡ fault.Damaged → AllReadable ed old.now.trees → Examines
-    -- another version is reported as such, and never as damage
-    pub version : f ≡ fault.Version → IsOtherVersion old.now.trees
-    pub this_version : f ≡ fault.Damaged → IsOtherVersion old.now.trees → ⊥
-    -- where the database did not fail, the tables are as they were
-    pub kept : f ≢ fault.Store → StaysAtRest ed old new
-    pub leaves : LeavesLess old new
+pub record AreNotTaken (ed : SchemaVersion) (old new : State) (f : Fault) (had : TableLists) (Examines : Type 0) :
+    Type 0 where
+  -- damaged tables are no office's; where each row is of its form, what takes them in examines them
+  pub damaged : f ≡ fault.Damaged → had ≡ no_rows → HoldNoOffice ed old.now.trees
+  pub form : f ≡ fault.Damaged → AllReadable ed old.now.trees → Examines
+  -- another version is reported as such, and never as damage
+  pub version : f ≡ fault.Version → IsOtherVersion old.now.trees
+  pub this_version : f ≡ fault.Damaged → IsOtherVersion old.now.trees → ⊥
+  -- where the database did not fail, the tables are as they were
+  pub kept : f ≢ fault.Store → StaysAtRest ed old new
+  pub leaves : LeavesLess old new
 
 -- the tables are by their names those of one version, and `office` names that version
 pub record AreOfOneVersion {S : Type 0} (g : Ghosts S) (conn store : Held S) : Type 0 where
-  pub version : Edition
+  pub version : SchemaVersion
   pub layout : layout_of (state g conn).now.schema ≡ Some version
   pub named : HasCleanDisk (state g store) → HasTables (office ∷ []) (state g conn).now
       → IsNamed version (state g conn).now.trees
@@ -110,13 +110,13 @@ pub record IsAdopted {S : Type 0} (g : Ghosts S) (conn store : Held S) (had has 
   pub version : AreOfOneVersion g conn store
   pub clean : HasCleanDisk (state g store) → HasCleanDisk (state g conn)
   pub shield : (state g conn).IsShielded → (state g store).IsShielded
-  pub taken : (ed : Edition) → HasCleanDisk (state g store) → IsAtRestOver ed (state g conn)
+  pub taken : (ed : SchemaVersion) → HasCleanDisk (state g store) → IsAtRestOver ed (state g conn)
       → AreTaken ed (state g conn) (state g store) had has
 
 -- tables that are not those of the version that `office` names are reported as damage, unless the database failed
 abbrev pub ReportsMixed : {S : Type 0} (g : Ghosts S) (conn back : Held S) (f : Fault) → Type 0
 ReportsMixed g conn back f =
-    (named : Edition) → HasCleanDisk (state g back) → HasTables (office ∷ []) (state g conn).now
+    (named : SchemaVersion) → HasCleanDisk (state g back) → HasTables (office ∷ []) (state g conn).now
     → IsNamed named (state g conn).now.trees → layout_of (state g conn).now.schema ≢ Some named
     → (f ≡ fault.Damaged) ⊎ (f ≡ fault.Store)
 
@@ -128,7 +128,7 @@ pub record IsNotAdopted {S : Type 0} (g : Ghosts S) (conn : Held S) (f : Fault) 
   pub mixed : ReportsMixed g conn back f
   pub clean : HasCleanDisk (state g back) → HasCleanDisk (state g conn)
   pub shield : (state g conn).IsShielded → (state g back).IsShielded
-  pub left : (ed : Edition) → HasCleanDisk (state g back) → IsAtRestOver ed (state g conn)
+  pub left : (ed : SchemaVersion) → HasCleanDisk (state g back) → IsAtRestOver ed (state g conn)
       → AreNotTaken ed (state g conn) (state g back) f had Examines
 
 -- ---- version 1 made version 2

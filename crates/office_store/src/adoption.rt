@@ -7,12 +7,12 @@ ghost use Rattle.sqlite_value.specs.declared.value.Value.TheVariants.{Int};
 ghost use Rattle.sqlite_value.specs.Order.{Row};
 ghost use Rattle.office_days.specs.Limits.{IsDayNumber};
 ghost use Rattle.office_sql.specs.Bags.{rows_of};
-ghost use Rattle.office_sql.specs.Editions.{IsTableOf, version_of};
-ghost use Rattle.office_sql.specs.declared.editions.Edition.{Edition as AnyEdition};
+ghost use Rattle.office_sql.specs.SchemaVersions.{IsTableOf, version_of};
+ghost use Rattle.office_sql.specs.declared.schema_versions.SchemaVersion.{SchemaVersion as AnySchemaVersion};
 ghost use Rattle.office_sql.specs.Office.{HasTables, IsAtRestOver};
 ghost use Rattle.office_sql.specs.Schema.{office};
 ghost use Rattle.office_sql.specs.Shown.{office_row};
-ghost use Rattle.office_store.specs.Adopted.{AreNumbersAndBytes, ConfirmsEdition, FindsNone, IsNamed, IsOtherVersion, ReadsTables};
+ghost use Rattle.office_store.specs.Adopted.{AreNumbersAndBytes, ConfirmsSchemaVersion, FindsNone, IsNamed, IsOtherVersion, ReadsTables};
 ghost use Rattle.office_store.specs.Calling.{AreOfOneVersion, ReportsMixed};
 ghost use Rattle.office_store.specs.Taken.{TakesAll, TakesIn};
 
@@ -22,14 +22,14 @@ use crate::table_rows::{give, take_rows};
 use office_days::Day;
 use office_records::{AggNo, Aggregation, Class, Code, Event, HoldRow, RecordNo, Schedule, Target};
 use office_rules::{Entry, Intake, RecordRow, Row as TableRow, Run, RunNo};
-use office_sql::{Edition, OfficeTable, all_rows, layout, number};
+use office_sql::{OfficeTable, SchemaVersion, all_rows, layout, number};
 use sqlite::types::ValueRef;
 use sqlite::{Alter, Connection, Row};
 use std::alloc::Global;
 
 /// An open connection's tables obey their schema: each row of `contents` is a number and bytes.
-pub(crate) fn obeys<S: Alter>(conn: &Connection<S>)
-    ensures { (e : AnyEdition) → IsAtRestOver e (state S.Store conn.now)
+pub(crate) fn schema_holds<S: Alter>(conn: &Connection<S>)
+    ensures { (e : AnySchemaVersion) → IsAtRestOver e (state S.Store conn.now)
         → AreNumbersAndBytes (state S.Store conn.now).now.trees }
 {
     conn.schema();
@@ -41,7 +41,7 @@ pub(crate) fn take_tables<S: Alter, I: Intake>(
     conn: &mut Connection<S>,
     intake: &mut I,
 ) -> Result<(), Fault>
-    ensures takes { (e : AnyEdition)
+    ensures takes { (e : AnySchemaVersion)
         → TakesAll e (state S.Store conn.old) (state S.Store conn.new) (I.content intake.old)
         (I.content intake.new) I.examines result }
     ensures version { OnOk result (AreOfOneVersion S.Store conn.old conn.new) }
@@ -49,37 +49,38 @@ pub(crate) fn take_tables<S: Alter, I: Intake>(
     ensures mode { conn.old.in_transaction ≡ false → conn.new.in_transaction ≡ false }
 {
     let named = layout(conn);
-    let (edition, day) = office_day(conn)?;
-    check_edition(conn, edition, named)?;
+    let (schema_version, day) = office_day(conn)?;
+    check_schema_version(conn, schema_version, named)?;
     give(TableRow::Office { day }, intake)?;
-    take_rest(alloc, conn, edition, intake)
+    take_rest(alloc, conn, schema_version, intake)
 }
 
 // That the tables, by their names those of `named`, are those of that version, and in version 2
 // `schedules` has no row.
-fn check_edition<S: Alter>(
+fn check_schema_version<S: Alter>(
     conn: &mut Connection<S>,
-    edition: Edition,
-    named: Option<Edition>,
+    schema_version: SchemaVersion,
+    named: Option<SchemaVersion>,
 ) -> Result<(), Fault>
-    ensures confirms { (e : AnyEdition) → named ≡ Some e
-        → ConfirmsEdition e edition (state S.Store conn.old) (state S.Store conn.new) result }
-    ensures names { OnOk result (named ≡ Some edition) }
+    ensures confirms { (e : AnySchemaVersion) → named ≡ Some e
+        → ConfirmsSchemaVersion e schema_version (state S.Store conn.old)
+        (state S.Store conn.new) result }
+    ensures names { OnOk result (named ≡ Some schema_version) }
     ensures faults { IfErr result (λ fault. (fault ≡ Fault.Damaged) ⊎ (fault ≡ Fault.Store)) }
     ensures clean { HasCleanDisk (state S.Store conn.new) → HasCleanDisk (state S.Store conn.old) }
     ensures shield { (state S.Store conn.old).IsShielded → (state S.Store conn.new).IsShielded }
     ensures mode { conn.old.in_transaction ≡ false → conn.new.in_transaction ≡ false }
 {
-    match (named, edition) {
-        (Some(Edition::One), Edition::One) => Ok(()),
-        (Some(Edition::Two), Edition::Two) => no_row(conn, OfficeTable::OldSchedules),
+    match (named, schema_version) {
+        (Some(SchemaVersion::One), SchemaVersion::One) => Ok(()),
+        (Some(SchemaVersion::Two), SchemaVersion::Two) => no_row(conn, OfficeTable::OldSchedules),
         _ => Err(Fault::Damaged),
     }
 }
 
 // That the table has no row.
 fn no_row<S: Alter>(conn: &mut Connection<S>, table: OfficeTable) -> Result<(), Fault>
-    ensures finds { (e : AnyEdition) → IsTableOf e table
+    ensures finds { (e : AnySchemaVersion) → IsTableOf e table
         → FindsNone e table (state S.Store conn.old) (state S.Store conn.new) result }
     ensures faults { IfErr result (λ fault. (fault ≡ Fault.Damaged) ⊎ (fault ≡ Fault.Store)) }
     ensures clean { HasCleanDisk (state S.Store conn.new) → HasCleanDisk (state S.Store conn.old) }
@@ -97,15 +98,15 @@ fn no_row<S: Alter>(conn: &mut Connection<S>, table: OfficeTable) -> Result<(), 
 fn take_rest<S: Alter, I: Intake>(
     alloc: Global,
     conn: &mut Connection<S>,
-    edition: Edition,
+    schema_version: SchemaVersion,
     intake: &mut I,
 ) -> Result<(), Fault>
-    ensures takes { TakesIn edition 1 12 (state S.Store conn.old) (state S.Store conn.new)
+    ensures takes { TakesIn schema_version 1 12 (state S.Store conn.old) (state S.Store conn.new)
         (I.content intake.old) (I.content intake.new) I.examines result }
     ensures mode { conn.old.in_transaction ≡ false → conn.new.in_transaction ≡ false }
 {
-    take_plans(alloc, conn, edition, intake)?;
-    take_things(alloc, conn, edition, intake)?;
+    take_plans(alloc, conn, schema_version, intake)?;
+    take_things(alloc, conn, schema_version, intake)?;
     take_holding(alloc, conn, intake)?;
     take_running(alloc, conn, intake)
 }
@@ -114,14 +115,14 @@ fn take_rest<S: Alter, I: Intake>(
 fn take_plans<S: Alter, I: Intake>(
     alloc: Global,
     conn: &mut Connection<S>,
-    edition: Edition,
+    schema_version: SchemaVersion,
     intake: &mut I,
 ) -> Result<(), Fault>
-    ensures takes { TakesIn edition 1 4 (state S.Store conn.old) (state S.Store conn.new)
+    ensures takes { TakesIn schema_version 1 4 (state S.Store conn.old) (state S.Store conn.new)
         (I.content intake.old) (I.content intake.new) I.examines result }
     ensures mode { conn.old.in_transaction ≡ false → conn.new.in_transaction ≡ false }
 {
-    take_rows::<S, (Code, Schedule), I>(alloc, conn, edition.schedules(), intake)?;
+    take_rows::<S, (Code, Schedule), I>(alloc, conn, schema_version.schedules(), intake)?;
     take_rows::<S, (Code, Class), I>(alloc, conn, OfficeTable::Classes, intake)?;
     take_rows::<S, (AggNo, Aggregation), I>(alloc, conn, OfficeTable::Aggregations, intake)
 }
@@ -130,15 +131,15 @@ fn take_plans<S: Alter, I: Intake>(
 fn take_things<S: Alter, I: Intake>(
     alloc: Global,
     conn: &mut Connection<S>,
-    edition: Edition,
+    schema_version: SchemaVersion,
     intake: &mut I,
 ) -> Result<(), Fault>
-    ensures takes { TakesIn edition 4 7 (state S.Store conn.old) (state S.Store conn.new)
+    ensures takes { TakesIn schema_version 4 7 (state S.Store conn.old) (state S.Store conn.new)
         (I.content intake.old) (I.content intake.new) I.examines result }
     ensures mode { conn.old.in_transaction ≡ false → conn.new.in_transaction ≡ false }
 {
     take_rows::<S, (RecordNo, RecordRow), I>(alloc, conn, OfficeTable::Records, intake)?;
-    take_events(alloc, conn, edition, intake)?;
+    take_events(alloc, conn, schema_version, intake)?;
     take_rows::<S, RecordNo, I>(alloc, conn, OfficeTable::Contents, intake)
 }
 
@@ -146,16 +147,16 @@ fn take_things<S: Alter, I: Intake>(
 fn take_events<S: Alter, I: Intake>(
     alloc: Global,
     conn: &mut Connection<S>,
-    edition: Edition,
+    schema_version: SchemaVersion,
     intake: &mut I,
 ) -> Result<(), Fault>
-    ensures takes { TakesIn edition 5 6 (state S.Store conn.old) (state S.Store conn.new)
+    ensures takes { TakesIn schema_version 5 6 (state S.Store conn.old) (state S.Store conn.new)
         (I.content intake.old) (I.content intake.new) I.examines result }
     ensures mode { conn.old.in_transaction ≡ false → conn.new.in_transaction ≡ false }
 {
-    match edition {
-        Edition::One => Ok(()),
-        Edition::Two => {
+    match schema_version {
+        SchemaVersion::One => Ok(()),
+        SchemaVersion::Two => {
             take_rows::<S, (RecordNo, Event), I>(alloc, conn, OfficeTable::Events, intake)
         }
     }
@@ -167,7 +168,7 @@ fn take_holding<S: Alter, I: Intake>(
     conn: &mut Connection<S>,
     intake: &mut I,
 ) -> Result<(), Fault>
-    ensures takes { (e : AnyEdition)
+    ensures takes { (e : AnySchemaVersion)
         → TakesIn e 7 9 (state S.Store conn.old) (state S.Store conn.new) (I.content intake.old)
         (I.content intake.new) I.examines result }
     ensures mode { conn.old.in_transaction ≡ false → conn.new.in_transaction ≡ false }
@@ -182,7 +183,7 @@ fn take_running<S: Alter, I: Intake>(
     conn: &mut Connection<S>,
     intake: &mut I,
 ) -> Result<(), Fault>
-    ensures takes { (e : AnyEdition)
+    ensures takes { (e : AnySchemaVersion)
         → TakesIn e 9 12 (state S.Store conn.old) (state S.Store conn.new) (I.content intake.old)
         (I.content intake.new) I.examines result }
     ensures mode { conn.old.in_transaction ≡ false → conn.new.in_transaction ≡ false }
@@ -193,8 +194,8 @@ fn take_running<S: Alter, I: Intake>(
 }
 
 // The version and the office's day, where there is one row, of version 1 or 2.
-fn office_day<S: Alter>(conn: &mut Connection<S>) -> Result<(Edition, Day), Fault>
-    ensures reads { (e : AnyEdition)
+fn office_day<S: Alter>(conn: &mut Connection<S>) -> Result<(SchemaVersion, Day), Fault>
+    ensures reads { (e : AnySchemaVersion)
         → ReadsTables
         (λ p db. IsPermutation (office_row (pos 1) (version_of p.0) p.1 ∷ [])
         (rows_of office db)) e (state S.Store conn.old) (state S.Store conn.new) result }
@@ -205,9 +206,9 @@ fn office_day<S: Alter>(conn: &mut Connection<S>) -> Result<(Edition, Day), Faul
     ensures other { HasCleanDisk (state S.Store conn.new)
         → HasTables (office ∷ []) (state S.Store conn.old).now
         → IfErr result
-        (λ fault. (e : AnyEdition) → IsNamed e (state S.Store conn.old).now.trees
+        (λ fault. (e : AnySchemaVersion) → IsNamed e (state S.Store conn.old).now.trees
         → (fault ≡ Fault.Damaged) ⊎ (fault ≡ Fault.Store)) }
-    ensures this_version { (e : AnyEdition) → HasCleanDisk (state S.Store conn.new)
+    ensures this_version { (e : AnySchemaVersion) → HasCleanDisk (state S.Store conn.new)
         → IsAtRestOver e (state S.Store conn.old)
         → IfErr result
         (λ fault. fault ≡ Fault.Damaged → IsOtherVersion (state S.Store conn.old).now.trees
@@ -219,11 +220,11 @@ fn office_day<S: Alter>(conn: &mut Connection<S>) -> Result<(Edition, Day), Faul
 }
 
 // The version and the day in the one row of `office`.
-fn day_of(rows: &[Row]) -> Result<(Edition, Day), Fault>
+fn day_of(rows: &[Row]) -> Result<(SchemaVersion, Day), Fault>
     ensures ok { IfOk result (λ p. rows.now ≡ office_row (pos 1) (version_of p.0) p.1 ∷ []) }
     ensures formed { IfOk result (λ p. IsDayNumber p.1) }
     ensures damaged { IfErr result
-        (λ fault. fault ≡ Fault.Damaged → (e : AnyEdition) (day : ℤ) → IsDayNumber day
+        (λ fault. fault ≡ Fault.Damaged → (e : AnySchemaVersion) (day : ℤ) → IsDayNumber day
         → rows.now ≢ office_row (pos 1) (version_of e) day ∷ []) }
     ensures this_version { IfErr result
         (λ fault. fault ≡ Fault.Damaged → (one version : ℤ) (rest : Row) → version ≢ pos 1
@@ -238,19 +239,19 @@ fn day_of(rows: &[Row]) -> Result<(Edition, Day), Fault>
     let [row] = rows else {
         return Err(Fault::Damaged);
     };
-    let edition = edition_in(row)?;
+    let schema_version = schema_version_in(row)?;
     has_columns(row, 3)?;
     if number(row, 0) != Ok(1) {
         return Err(Fault::Damaged);
     }
-    Ok((edition, day(row, 2)?))
+    Ok((schema_version, day(row, 2)?))
 }
 
 // The version in a row of `office`; one of another version than 1 and 2 is refused.
-fn edition_in(row: &Row) -> Result<Edition, Fault>
+fn schema_version_in(row: &Row) -> Result<SchemaVersion, Fault>
     ensures ok { IfOk result
-        (λ edition. (one : ℤ) × (rest : Row)
-        × (row.now ≡ Int one ∷ Int (version_of edition) ∷ rest)) }
+        (λ schema_version. (one : ℤ) × (rest : Row)
+        × (row.now ≡ Int one ∷ Int (version_of schema_version) ∷ rest)) }
     ensures version { IfErr result
         (λ fault. fault ≡ Fault.Version
         → (one : ℤ) × (version : ℤ) × (rest : Row) × (row.now ≡ Int one ∷ Int version ∷ rest)
@@ -261,8 +262,8 @@ fn edition_in(row: &Row) -> Result<Edition, Fault>
     ensures faults { IfErr result (λ fault. (fault ≡ Fault.Damaged) ⊎ (fault ≡ Fault.Version)) }
 {
     match (row.get_ref(0), row.get_ref(1)) {
-        (Ok(ValueRef::Int(_)), Ok(ValueRef::Int(1))) => Ok(Edition::One),
-        (Ok(ValueRef::Int(_)), Ok(ValueRef::Int(2))) => Ok(Edition::Two),
+        (Ok(ValueRef::Int(_)), Ok(ValueRef::Int(1))) => Ok(SchemaVersion::One),
+        (Ok(ValueRef::Int(_)), Ok(ValueRef::Int(2))) => Ok(SchemaVersion::Two),
         (Ok(ValueRef::Int(_)), Ok(ValueRef::Int(_))) => Err(Fault::Version),
         _ => Err(Fault::Damaged),
     }

@@ -2,7 +2,7 @@
 ghost use Rattle.std.specs.Prelude.{◌≡◌, ◌∷◌, [], pos};
 ghost use Rattle.std.specs.Option.{option_copied, option_map};
 ghost use Rattle.sqlite.specs.Held.{state};
-ghost use Rattle.office_sql.specs.Editions.{version_2};
+ghost use Rattle.office_sql.specs.SchemaVersions.{version_2};
 ghost use Rattle.office_sql.specs.Office.{GoesInside, PutsInto};
 ghost use Rattle.office_sql.specs.Schema.{certificates, contents, targets};
 ghost use Rattle.office_sql.specs.Shown.{certificate_row, content_row, target_row};
@@ -305,10 +305,10 @@ fn write_row<S: Alter>(tx: &mut Transaction<'_, S>, it: &EncodedWrite<'_>) -> Re
         } => put_record(tx, *number, head, *status, text),
         RowWrite::Event { number, event } => put_event(tx, *number, event),
         RowWrite::Content { number, bytes } => put_content(tx, *number, bytes),
-        RowWrite::ContentGone { number } => remove_content(tx, *number),
+        RowWrite::DeleteContent { number } => remove_content(tx, *number),
         RowWrite::Hold { code, hold } => put_hold(tx, code, hold),
         RowWrite::Target { hold, target } => put_target(tx, hold, target, text),
-        RowWrite::TargetGone { hold, target } => {
+        RowWrite::RemoveTarget { hold, target } => {
             remove_target(tx, hold.text(), target_kind(target), text)
         }
         RowWrite::Run { number, run } => put_run(tx, *number, run),

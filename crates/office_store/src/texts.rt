@@ -38,7 +38,7 @@ pub(crate) fn needed_text(alloc: Global, write: &RowWrite) -> Result<String, Mem
 {
     match write {
         RowWrite::Record { head, .. } => Ok(hex::encode(alloc, &head.digest)?),
-        RowWrite::Target { target, .. } | RowWrite::TargetGone { target, .. } => {
+        RowWrite::Target { target, .. } | RowWrite::RemoveTarget { target, .. } => {
             target_text(alloc, target)
         }
         _ => Ok(String::new(alloc)),

@@ -15,14 +15,14 @@ HaveDocumentsTo records statuses count =
 pub documents_none : (records : List Record) (statuses : List Status) → HaveDocumentsTo records statuses 0
 documents_none records statuses r head status low at beside = let h = numbered_within records r head at in absurd (omega (arith, h))
 
-same_thing : {A : Type 0} (x y : A) → Some x ≡ Some y → x ≡ y
-same_thing x y e = cc
+same_entity : {A : Type 0} (x y : A) → Some x ≡ Some y → x ≡ y
+same_entity x y e = cc
 
 same_at : {A : Type 0} (xs : List A) (i n : ℕ) (x y : A) → i < length xs → i + 1 ≡ n → x ≡ get_or xs i x → numbered xs n ≡ Some y → x ≡ y
 same_at xs i n x y low next is at =
     let here : i + 1 - 1 ≡ i = omega arith in
     let there = numbered_read xs (i + 1) x (omega arith) (omega arith) (is ∙ ap (λ k. get_or xs k x) (sym here)) in
-    same_thing x y (sym there ∙ ap (numbered xs) next ∙ at)
+    same_entity x y (sym there ∙ ap (numbered xs) next ∙ at)
 
 -- one more has them
 pub documents_more : (records : List Record) (statuses : List Status) (i : ℕ) (head : Record) (status : Status) → i < length records → i < length statuses → head ≡ get_or records i head → status ≡ get_or statuses i status

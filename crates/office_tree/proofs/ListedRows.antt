@@ -5,7 +5,7 @@ use Rattle.std.specs.FinMap.{FinMap, empty, get, insert}
 use Rattle.std.specs.Option.{is_some, option_and_then}
 use Rattle.office_tree.specs.ClassIndex.{AreListed, HaveNumbers, IsOfClass, NumberMap}
 use Rattle.office_tree.specs.Derived.{AreExtended}
-use Rattle.office_tree.specs.Inheriting.{is_heir}
+use Rattle.office_tree.specs.Inheriting.{inherits_from}
 use Rattle.office_records.specs.Lasting.{AggregationStays}
 use Rattle.office_records.specs.Lists.{numbered, put}
 use Rattle.office_records.specs.Sound.{IsSound}
@@ -88,18 +88,18 @@ listed_aggregations classes xs others records numbers lists class left old = rec
 }
 
 reached : (tree : TreeState) (a : ℕ) (old new : Aggregation) (reclassifies : Bool) → IsSound tree → numbered tree.aggregations a ≡ Some old → AggregationStays old new → LeavesClass reclassifies old new → (r : ℕ) (head : Record) → numbered tree.records r ≡ Some head
-    → (reclassifies && is_heir (put tree.aggregations a new) a head) ≡ false → class_in (put tree.aggregations a new) tree.records r ≡ class_in tree.aggregations tree.records r
+    → (reclassifies && inherits_from (put tree.aggregations a new) a head) ≡ false → class_in (put tree.aggregations a new) tree.records r ≡ class_in tree.aggregations tree.records r
 reached tree a old new true sound there stays leaves r head here apart =
     class_left tree.aggregations a new old tree.records r head (placed_in tree.aggregations sound.forest sound.names.root_classes) here (sound.names.containers r head here) there stays.parent apart
 reached tree a old new false sound there stays leaves r head here apart = class_put tree a new old r head sound here there stays.parent (leaves refl)
 
 -- an aggregation that was edited, with those that it reaches on the lists of their classes
-pub listed_reached : (classes : FinMap code_cmp Class) (tree : TreeState) (a : ℕ) (old new : Aggregation) (reclassifies : Bool) (numbers : NumberMap) (lists more_lists : ℕ) (class now : List ℕ)
+pub listed_affected : (classes : FinMap code_cmp Class) (tree : TreeState) (a : ℕ) (old new : Aggregation) (reclassifies : Bool) (numbers : NumberMap) (lists more_lists : ℕ) (class now : List ℕ)
     → IsSound tree → numbered tree.aggregations a ≡ Some old → AggregationStays old new → LeavesClass reclassifies old new
     → AreListed classes tree.aggregations tree.records numbers lists class → more_lists ≡ lists → length now ≡ length class
-    → AreDone (IsOfClass numbers (put tree.aggregations a new) tree.records) tree.records (λ head. reclassifies && is_heir (put tree.aggregations a new) a head) class now
+    → AreDone (IsOfClass numbers (put tree.aggregations a new) tree.records) tree.records (λ head. reclassifies && inherits_from (put tree.aggregations a new) a head) class now
     → AreListed classes (put tree.aggregations a new) tree.records numbers more_lists now
-listed_reached classes tree a old new reclassifies numbers lists more_lists class now sound there stays leaves kept same_lists many done = record {
+listed_affected classes tree a old new reclassifies numbers lists more_lists class now sound there stays leaves kept same_lists many done = record {
   numbers_agree = subst (λ (n : ℕ). HaveNumbers classes numbers n) (sym same_lists) kept.numbers_agree;
   count = many ∙ kept.count;
   each = λ r c e.

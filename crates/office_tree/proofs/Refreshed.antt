@@ -43,40 +43,40 @@ head_at records others i head same low is =
 
 -- ---- the records of one aggregation, from the last on
 
-pub record DoneAbove {A : Type 0} (IsRight : ℕ → A → Type 0) (records : List Record) (container at : ℕ) (old new : List A) : Type 0 where
+pub record DoneAbove {A : Type 0} (IsRight : ℕ → A → Type 0) (records : List Record) (aggregation at : ℕ) (old new : List A) : Type 0 where
   pub count : length new ≡ length old
-  pub there : 0 < at → numbered (containers_of records) at ≡ Some container
+  pub there : 0 < at → numbered (containers_of records) at ≡ Some aggregation
   pub done : (r : ℕ) (it : A) (head : Record) → at < r → numbered new r ≡ Some it → numbered records r ≡ Some head
-      → IsRight r it ⊎ ((is_in container head ≡ false) × (numbered old r ≡ Some it))
+      → IsRight r it ⊎ ((is_in aggregation head ≡ false) × (numbered old r ≡ Some it))
   pub left : (r : ℕ) → r ≤ at → numbered new r ≡ numbered old r
 
 is_same : (m n : ℕ) → (m == n) ≡ true → m ≡ n
 is_same m n h = grind (arith, nat_tests)
 
-container_reported : (records : List Record) (r : ℕ) (head : Record) → numbered records r ≡ Some head → numbered (containers_of records) r ≡ Some head.aggregation
-container_reported records r head there = numbered_map (λ (it : Record). it.aggregation) records r ∙ ap (option_map (λ (it : Record). it.aggregation)) there
+aggregation_reported : (records : List Record) (r : ℕ) (head : Record) → numbered records r ≡ Some head → numbered (containers_of records) r ≡ Some head.aggregation
+aggregation_reported records r head there = numbered_map (λ (it : Record). it.aggregation) records r ∙ ap (option_map (λ (it : Record). it.aggregation)) there
 
--- a record that is not of that container is not meant
-not_meant : (records : List Record) (container r : ℕ) (head : Record) → numbered records r ≡ Some head → (numbered (containers_of records) r ≡ Some container → ⊥) → (b : Bool) → (head.aggregation == container) ≡ b → (head.aggregation == container) ≡ false
-not_meant records container r head there apart true test = absurd (apart (container_reported records r head there ∙ ap Some (is_same head.aggregation container test)))
-not_meant records container r head there apart false test = test
+-- a record that is not of that aggregation is not meant
+not_meant : (records : List Record) (aggregation r : ℕ) (head : Record) → numbered records r ≡ Some head → (numbered (containers_of records) r ≡ Some aggregation → ⊥) → (b : Bool) → (head.aggregation == aggregation) ≡ b → (head.aggregation == aggregation) ≡ false
+not_meant records aggregation r head there apart true test = absurd (apart (aggregation_reported records r head there ∙ ap Some (is_same head.aggregation aggregation test)))
+not_meant records aggregation r head there apart false test = test
 
 -- none are yet
-pub done_last : {A : Type 0} (IsRight : ℕ → A → Type 0) (records : List Record) (container at : ℕ) (old : List A) → IsLastBelow (containers_of records) container (length (containers_of records) + 1) at → DoneAbove IsRight records container at old old
-done_last IsRight records container at old is = record {
+pub done_last : {A : Type 0} (IsRight : ℕ → A → Type 0) (records : List Record) (aggregation at : ℕ) (old : List A) → IsLastBelow (containers_of records) aggregation (length (containers_of records) + 1) at → DoneAbove IsRight records aggregation at old old
+done_last IsRight records aggregation at old is = record {
   count = λ _. length old;
   there = is.there;
   done = λ r it head low e there.
-      let within = numbered_within (containers_of records) r head.aggregation (container_reported records r head there) in
-      inr (not_meant records container r head there (is.last r low (omega (arith, within.1))) (head.aggregation == container) refl, e);
+      let within = numbered_within (containers_of records) r head.aggregation (aggregation_reported records r head there) in
+      inr (not_meant records aggregation r head there (is.last r low (omega (arith, within.1))) (head.aggregation == aggregation) refl, e);
   left = λ r low. λ _. numbered old r;
 }
 
 -- one record more, and the one before it is the next
-pub done_before : {A : Type 0} (IsRight : ℕ → A → Type 0) (records : List Record) (container at before : ℕ) (old new next : List A) → DoneAbove IsRight records container at old new → length next ≡ length new
-    → ((it : A) → numbered next at ≡ Some it → IsRight at it) → ((r : ℕ) → r ≢ at → numbered next r ≡ numbered new r) → IsLastBelow (containers_of records) container at before
-    → DoneAbove IsRight records container before old next
-done_before {A} IsRight records container at before old new next so_far many here others is = record {
+pub done_before : {A : Type 0} (IsRight : ℕ → A → Type 0) (records : List Record) (aggregation at before : ℕ) (old new next : List A) → DoneAbove IsRight records aggregation at old new → length next ≡ length new
+    → ((it : A) → numbered next at ≡ Some it → IsRight at it) → ((r : ℕ) → r ≢ at → numbered next r ≡ numbered new r) → IsLastBelow (containers_of records) aggregation at before
+    → DoneAbove IsRight records aggregation before old next
+done_before {A} IsRight records aggregation at before old new next so_far many here others is = record {
   count = many ∙ so_far.count;
   there = is.there;
   done = λ r it head low e there. elim (cases_lt at r) [
@@ -84,7 +84,7 @@ done_before {A} IsRight records container at before old new next so_far many her
     | inr high ↦ elim (cases_lt r at) [
       | inl between ↦
           let was = sym (so_far.left r high) ∙ sym (others r (λ same. omega (arith, same, between))) ∙ e in
-          inr (not_meant records container r head there (is.last r low between) (head.aggregation == container) refl, was)
+          inr (not_meant records aggregation r head there (is.last r low between) (head.aggregation == aggregation) refl, was)
       | inr up ↦ let same : at ≡ r = omega (arith, high, up) in inl (subst (λ n. numbered next n ≡ Some it → IsRight n it) same (here it) e)
     ]
   ];
@@ -92,8 +92,8 @@ done_before {A} IsRight records container at before old new next so_far many her
 }
 
 -- and all are
-pub done_container : {A : Type 0} (IsRight : ℕ → A → Type 0) (records : List Record) (container at : ℕ) (old new : List A) → DoneAbove IsRight records container at old new → at ≡ 0 → AreDone IsRight records (is_in container) old new
-done_container IsRight records container at old new so_far none = λ r it head e there.
+pub done_aggregation : {A : Type 0} (IsRight : ℕ → A → Type 0) (records : List Record) (aggregation at : ℕ) (old new : List A) → DoneAbove IsRight records aggregation at old new → at ≡ 0 → AreDone IsRight records (is_in aggregation) old new
+done_aggregation IsRight records aggregation at old new so_far none = λ r it head e there.
     let within = numbered_within records r head there in
     so_far.done r it head (omega (arith, none, within.0)) e there
 

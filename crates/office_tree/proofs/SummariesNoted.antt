@@ -6,7 +6,7 @@ use Rattle.office_records.specs.Disposal.{is_ended}
 use Rattle.office_records.specs.Lasting.{HeadStays}
 use Rattle.office_records.specs.Lists.{numbered, later, put}
 use Rattle.office_records.specs.Rows.{put_record}
-use Rattle.office_tree.specs.Summaries.{AreAdded, AreSummaries, AreTurned, added_to, is_in_chain}
+use Rattle.office_tree.specs.Summaries.{AreAdded, AreAfterStatusChange, AreSummaries, added_to, is_in_chain}
 use Rattle.office_records.specs.Tree.{TreeState, last_addition}
 use Rattle.office_records.specs.declared.aggregation.Aggregation.{Aggregation}
 use Rattle.office_records.specs.declared.head.Record.{Record}
@@ -16,7 +16,7 @@ use Rattle.office_tree.specs.declared.summary.AggregationSummary.{AggregationSum
 use Rattle.office_tree.proofs.AdditionsPut.{last_addition_put, last_addition_push}
 use Rattle.office_records.proofs.Places.{numbered_within, numbered_or}
 use Rattle.office_records.proofs.Putting.{put_past, put_next}
-use Rattle.office_tree.proofs.SummaryLemmas.{records-next, live-next_beside, records-put, live-put, records_few, live_few}
+use Rattle.office_tree.proofs.SummaryLemmas.{records-next, active-next_beside, records-put, active-put, records_few, active_few}
 
 -- a tree of these rows alone, with no schedules and no classes
 abbrev pub rows : List Aggregation → List Record → List Status → TreeState
@@ -30,14 +30,14 @@ summaries_of_rows tree aggregations records statuses summaries same_aggregations
     let own = subst P (λ t. rows (sym same_aggregations t) (sym same_records t) (sym same_statuses t)) are in
     record {
       count = own.count;
-      each = λ a it at. let h = own.each a it at in record { last_addition = h.last_addition; records = h.records; live = h.live };
+      each = λ a it at. let h = own.each a it at in record { last_addition = h.last_addition; records = h.records; active = h.active };
     }
 
 -- ---- no records
 
 -- what is cached of an aggregation that no record is below
 abbrev pub fresh : AggregationSummary
-fresh = record { last_addition = None; records = 0; live = 0 }
+fresh = record { last_addition = None; records = 0; active = 0 }
 
 slice_get-fresh : (xs : List Aggregation) (i : ℕ) (it : AggregationSummary) → slice_get (map (λ _. fresh) xs) i ≡ Some it → it ≡ fresh
 slice_get-fresh [] i it e = absurd cc
@@ -62,16 +62,16 @@ fresh_summaries aggregations = record {
   each = λ a it at. let is = numbered-fresh aggregations a it at in record {
     last_addition = ap (λ (x : AggregationSummary). x.last_addition) is ∙ sym (no_addition a);
     records = ap (λ (x : AggregationSummary). x.records) is;
-    live = ap (λ (x : AggregationSummary). x.live) is;
+    active = ap (λ (x : AggregationSummary). x.active) is;
   };
 }
 
 -- no more are kept than there are records
-pub summaries_few : (tree : TreeState) (summaries : List AggregationSummary) (n : ℕ) → AreSummaries tree summaries → length tree.records ≤ n → (a : ℕ) (it : AggregationSummary) → numbered summaries a ≡ Some it → (it.records ≤ n) × (it.live ≤ n)
+pub summaries_few : (tree : TreeState) (summaries : List AggregationSummary) (n : ℕ) → AreSummaries tree summaries → length tree.records ≤ n → (a : ℕ) (it : AggregationSummary) → numbered summaries a ≡ Some it → (it.records ≤ n) × (it.active ≤ n)
 summaries_few tree summaries n are few a it at =
     let h = are.each a it at in
     let most = records_few tree a in
-    (omega (arith, h.records, most, few), omega (arith, h.live, live_few tree a, most, few))
+    (omega (arith, h.records, most, few), omega (arith, h.active, active_few tree a, most, few))
 
 -- ---- one record more
 
@@ -95,9 +95,9 @@ summaries_next tree q head status old new beside q_is added are = record {
         records = ap (λ (x : AggregationSummary). x.records) is
             ∙ ap (λ n. n + cond (is_in_chain tree.aggregations head.aggregation a) 1 0) summary.records
             ∙ sym (records-next tree q head status a q_is);
-        live = ap (λ (x : AggregationSummary). x.live) is
-            ∙ ap (λ n. n + cond (is_in_chain tree.aggregations head.aggregation a && not (is_ended status)) 1 0) summary.live
-            ∙ sym (live-next_beside tree q head status a beside q_is);
+        active = ap (λ (x : AggregationSummary). x.active) is
+            ∙ ap (λ n. n + cond (is_in_chain tree.aggregations head.aggregation a && not (is_ended status)) 1 0) summary.active
+            ∙ sym (active-next_beside tree q head status a beside q_is);
       };
 }
 
@@ -118,7 +118,7 @@ noted_summaries aggregations records statuses head status old new beside added a
 
 -- what is cached is right of the tree with a record's row in place of the old one once its turn is noted
 pub summaries_put : (tree : TreeState) (q : ℕ) (head : Record) (status : Status) (old new : List AggregationSummary) (row : Record) (was : Status) → numbered tree.records q ≡ Some row → HeadStays row head → numbered tree.statuses q ≡ Some was
-    → AreTurned tree.aggregations row.aggregation (not (is_ended was)) (not (is_ended status)) old new → AreSummaries tree old → AreSummaries (put_record tree q head status) new
+    → AreAfterStatusChange tree.aggregations row.aggregation (not (is_ended was)) (not (is_ended status)) old new → AreSummaries tree old → AreSummaries (put_record tree q head status) new
 summaries_put tree q head status old new row was there stays status_there turned are = record {
   count = turned.count ∙ are.count;
   each = λ a it at.
@@ -132,14 +132,14 @@ summaries_put tree q head status old new row was there stays status_there turned
       record {
         last_addition = ap (λ (x : AggregationSummary). x.last_addition) is ∙ next.2.last_addition ∙ summary.last_addition ∙ sym (last_addition_put tree.records q head row a there stays.aggregation stays.added);
         records = ap (λ (x : AggregationSummary). x.records) is ∙ next.2.records ∙ summary.records ∙ ap length (sym (records-put tree q head status a row there stays));
-        live = omega (arith, ap (λ (x : AggregationSummary). x.live) is, next.2.live, summary.live, live-put tree q head status a row was there stays status_there);
+        active = omega (arith, ap (λ (x : AggregationSummary). x.active) is, next.2.active, summary.active, active-put tree q head status a row was there stays status_there);
       };
 }
 
 -- one is kept of a record that is not ended
 pub summaries_some : (tree : TreeState) (q : ℕ) (summaries : List AggregationSummary) (row : Record) (was : Status) → numbered tree.records q ≡ Some row → numbered tree.statuses q ≡ Some was → AreSummaries tree summaries
-    → (a : ℕ) (it : AggregationSummary) → numbered summaries a ≡ Some it → (is_in_chain tree.aggregations row.aggregation a && not (is_ended was)) ≡ true → 0 < it.live
+    → (a : ℕ) (it : AggregationSummary) → numbered summaries a ≡ Some it → (is_in_chain tree.aggregations row.aggregation a && not (is_ended was)) ≡ true → 0 < it.active
 summaries_some tree q summaries row was there status_there are a it at on =
     let one : cond {A = ℕ} (is_in_chain tree.aggregations row.aggregation a && not (is_ended was)) 1 0 ≡ 1 = ap (λ t. cond {A = ℕ} t 1 0) on in
     let none : cond {A = ℕ} (is_in_chain tree.aggregations row.aggregation a && false) 1 0 ≡ 0 = ap (λ t. cond {A = ℕ} t 1 0) (and-false (is_in_chain tree.aggregations row.aggregation a)) in
-    omega (arith, one, none, (are.each a it at).live, live-put tree q row Ended a row was there (record { ref_text = refl; aggregation = refl; added = refl }) status_there)
+    omega (arith, one, none, (are.each a it at).active, active-put tree q row Ended a row was there (record { ref_text = refl; aggregation = refl; added = refl }) status_there)

@@ -15,16 +15,16 @@ containers_of records = map (λ head. head.aggregation) records
 abbrev pub parents_of : List Aggregation → List ℕ
 parents_of aggregations = map (λ it. unwrap_or it.parent 0) aggregations
 
--- of the things below n, the last of that container has the number q; 0 where there is none
-pub record IsLastBelow (containers : List ℕ) (container n q : ℕ) : Type 0 where
+-- of the entities below n, the last of that aggregation has the number q; 0 where there is none
+pub record IsLastBelow (containers : List ℕ) (aggregation n q : ℕ) : Type 0 where
   pub below : q < n
-  pub there : 0 < q → numbered containers q ≡ Some container
-  pub last : (r : ℕ) → q < r → r < n → numbered containers r ≡ Some container → ⊥
+  pub there : 0 < q → numbered containers q ≡ Some aggregation
+  pub last : (r : ℕ) → q < r → r < n → numbered containers r ≡ Some aggregation → ⊥
 
--- the last thing of each of so many aggregations, and the one before each thing in its aggregation, if it is in one
+-- the last entity of each of so many aggregations, and the one before each entity in its aggregation, if it is in one
 pub record AreLinked (containers : List ℕ) (count : ℕ) (last before : List ℕ) : Type 0 where
   pub aggregations : length last ≡ count
-  pub things : length before ≡ length containers
+  pub entities : length before ≡ length containers
   pub within : (r a : ℕ) → numbered containers r ≡ Some a → a ≤ count
   pub lasts : (a q : ℕ) → numbered last a ≡ Some q → IsLastBelow containers a (length containers + 1) q
   pub befores : (r a q : ℕ) → 0 < a → numbered containers r ≡ Some a → numbered before r ≡ Some q

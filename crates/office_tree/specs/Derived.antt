@@ -93,7 +93,7 @@ pub record IsRenewed (rows : TreeState) (codes : List (List ℕ)) (meant moved :
 -- there is room for what is derived of one aggregation more
 pub record HasAggregationRoom (it : Directory) : Type 0 where
   pub summary : HasRoom it.summaries
-  pub container : HasRoom it.records_in.last
+  pub aggregation : HasRoom it.records_in.last
   pub parent : HasRoom it.aggregations_in.last
   pub child : HasRoom it.aggregations_in.before
 

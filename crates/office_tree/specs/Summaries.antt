@@ -9,15 +9,15 @@ use Rattle.office_records.specs.declared.head.Record.{Record}
 use Rattle.office_tree.specs.declared.summary.AggregationSummary.{AggregationSummary}
 
 -- the records below an aggregation, at any depth, that are not ended
-abbrev pub live_below : TreeState → ℕ → List ℕ
-live_below tree a = filter (λ r. not (holds_of (status_of tree r) is_ended)) (records_below tree a)
+abbrev pub active_below : TreeState → ℕ → List ℕ
+active_below tree a = filter (λ r. not (holds_of (status_of tree r) is_ended)) (records_below tree a)
 
 -- what is cached of an aggregation is right: the last addition to it, how many records are below it, and how many of
 -- these are not ended
 pub record IsSummary (tree : TreeState) (a : ℕ) (it : AggregationSummary) : Type 0 where
   pub last_addition : it.last_addition ≡ last_addition tree.records a
   pub records : it.records ≡ length (records_below tree a)
-  pub live : it.live ≡ length (live_below tree a)
+  pub active : it.active ≡ length (active_below tree a)
 
 -- so it is of all aggregations
 pub record AreSummaries (tree : TreeState) (summaries : List AggregationSummary) : Type 0 where
@@ -31,42 +31,43 @@ pub record AreLastAdditions (summaries : List AggregationSummary) (aggregations 
   pub each : (a : ℕ) (it : AggregationSummary) → numbered summaries a ≡ Some it
       → it.last_addition ≡ last_addition records a
 
--- an aggregation is the container of a record, or contains it
+-- an aggregation is that of a record, or contains it
 abbrev pub is_in_chain : List Aggregation → ℕ → ℕ → Bool
-is_in_chain aggregations container a = list_any (λ b. b == a) (chain_of aggregations container)
+is_in_chain aggregations aggregation a = list_any (λ b. b == a) (chain_of aggregations aggregation)
 
--- what a record that is added on a day to its container, live or ended, makes of what is cached of an aggregation
+-- what is cached of an aggregation once a record, active or ended, was added on a day to its own aggregation
 abbrev pub added_to : List Aggregation → ℕ → ℤ → Bool → ℕ → AggregationSummary → AggregationSummary
-added_to aggregations container day is_live a it = record {
-  last_addition = cond (container == a) (later it.last_addition day) it.last_addition;
-  records = it.records + cond (is_in_chain aggregations container a) 1 0;
-  live = it.live + cond (is_in_chain aggregations container a && is_live) 1 0;
+added_to aggregations aggregation day is_active a it = record {
+  last_addition = cond (aggregation == a) (later it.last_addition day) it.last_addition;
+  records = it.records + cond (is_in_chain aggregations aggregation a) 1 0;
+  active = it.active + cond (is_in_chain aggregations aggregation a && is_active) 1 0;
 }
 
 -- and so of all aggregations
-pub record AreAdded (aggregations : List Aggregation) (container : ℕ) (day : ℤ) (is_live : Bool)
+pub record AreAdded (aggregations : List Aggregation) (aggregation : ℕ) (day : ℤ) (is_active : Bool)
     (old new : List AggregationSummary) : Type 0 where
   pub count : length new ≡ length old
   pub each : (a : ℕ) (it : AggregationSummary) → numbered old a ≡ Some it
-      → numbered new a ≡ Some (added_to aggregations container day is_live a it)
+      → numbered new a ≡ Some (added_to aggregations aggregation day is_active a it)
 
--- an addition to that container on that day is not later than the last one, or it is the first
+-- an addition to that aggregation on that day is not later than the last one, or it is the first
 abbrev pub IsQuiet : List AggregationSummary → ℕ → ℤ → Type 0
-IsQuiet summaries container day =
-    (it : AggregationSummary) → numbered summaries container ≡ Some it
+IsQuiet summaries aggregation day =
+    (it : AggregationSummary) → numbered summaries aggregation ≡ Some it
     → (it.last_addition ≡ None) ⊎ (later it.last_addition day ≡ it.last_addition)
 
--- what is cached of an aggregation once a record of a container was live, or not, and is live, or not
-pub record IsTurned (aggregations : List Aggregation) (container : ℕ) (was is : Bool) (a : ℕ)
+-- what is cached of an aggregation once the status of a record changed: whether it was active, and whether it is
+pub record IsAfterStatusChange (aggregations : List Aggregation) (aggregation : ℕ) (was is : Bool) (a : ℕ)
     (old new : AggregationSummary) : Type 0 where
   pub last_addition : new.last_addition ≡ old.last_addition
   pub records : new.records ≡ old.records
-  pub live : new.live + cond (is_in_chain aggregations container a && was) 1 0
-      ≡ old.live + cond (is_in_chain aggregations container a && is) 1 0
+  pub active : new.active + cond (is_in_chain aggregations aggregation a && was) 1 0
+      ≡ old.active + cond (is_in_chain aggregations aggregation a && is) 1 0
 
 -- and so of all aggregations
-pub record AreTurned (aggregations : List Aggregation) (container : ℕ) (was is : Bool)
+pub record AreAfterStatusChange (aggregations : List Aggregation) (aggregation : ℕ) (was is : Bool)
     (old new : List AggregationSummary) : Type 0 where
   pub count : length new ≡ length old
   pub each : (a : ℕ) (it : AggregationSummary) → numbered old a ≡ Some it
-      → (next : AggregationSummary) × (numbered new a ≡ Some next) × IsTurned aggregations container was is a it next
+      → (next : AggregationSummary) × (numbered new a ≡ Some next)
+      × IsAfterStatusChange aggregations aggregation was is a it next

@@ -12,15 +12,15 @@ use office_records::{AggNo, Aggregation, Record};
 use std::alloc::Global;
 
 /// The number of a record, or of an aggregation in another.
-type ThingNo = u32;
+type EntityNo = u32;
 
 /// What is in each aggregation, linked, so that it is gone through without the others, records and
-/// aggregations alike: for each aggregation the number of the last thing in it, for each thing that
-/// of the one before it in the same aggregation, 0 for none.
+/// aggregations alike: for each aggregation the number of the last entity in it, for each entity
+/// that of the one before it in the same aggregation, 0 for none.
 #[derive(Drop)]
 pub(crate) struct ChildLists {
-    pub(crate) last: Vec<ThingNo>,
-    pub(crate) before: Vec<ThingNo>,
+    pub(crate) last: Vec<EntityNo>,
+    pub(crate) before: Vec<EntityNo>,
 }
 
 impl ChildLists {
@@ -35,26 +35,26 @@ impl ChildLists {
         }
     }
 
-    /// The number of the last thing in the aggregation; 0 for none.
-    pub(crate) fn last(&self, container: AggNo) -> ThingNo
-        requires low { 0 < container }
-        requires high { container ≤ length self.now.last.items }
-        ensures { numbered self.now.last.items container ≡ Some result }
+    /// The number of the last entity in the aggregation; 0 for none.
+    pub(crate) fn last(&self, aggregation: AggNo) -> EntityNo
+        requires low { 0 < aggregation }
+        requires high { aggregation ≤ length self.now.last.items }
+        ensures { numbered self.now.last.items aggregation ≡ Some result }
     {
-        self.last[container as usize - 1]
+        self.last[aggregation as usize - 1]
     }
 
-    /// The number of the thing before this one in the same aggregation; 0 for none.
-    pub(crate) fn before(&self, thing: ThingNo) -> ThingNo
-        requires low { 0 < thing }
-        requires high { thing ≤ length self.now.before.items }
-        ensures { numbered self.now.before.items thing ≡ Some result }
+    /// The number of the entity before this one in the same aggregation; 0 for none.
+    pub(crate) fn before(&self, entity: EntityNo) -> EntityNo
+        requires low { 0 < entity }
+        requires high { entity ≤ length self.now.before.items }
+        ensures { numbered self.now.before.items entity ≡ Some result }
     {
-        self.before[thing as usize - 1]
+        self.before[entity as usize - 1]
     }
 
-    /// Makes room for one more aggregation.
-    pub(crate) fn make_container_room(&mut self) -> Result<(), Memory>
+    /// Makes room for the list of one more aggregation.
+    pub(crate) fn make_list_room(&mut self) -> Result<(), Memory>
         ensures last { self.new.last.items ≡ self.old.last.items }
         ensures before { self.new.before.items ≡ self.old.before.items }
         ensures room { OnOk result (vec_len self.new.last < vec_capacity self.new.last) }
@@ -63,8 +63,8 @@ impl ChildLists {
         Ok(())
     }
 
-    /// Makes room for one more thing.
-    pub(crate) fn make_thing_room(&mut self) -> Result<(), Memory>
+    /// Makes room for one more entity.
+    pub(crate) fn make_entity_room(&mut self) -> Result<(), Memory>
         ensures last { self.new.last.items ≡ self.old.last.items }
         ensures before { self.new.before.items ≡ self.old.before.items }
         ensures room { OnOk result (vec_len self.new.before < vec_capacity self.new.before) }
@@ -73,20 +73,20 @@ impl ChildLists {
         Ok(())
     }
 
-    /// Makes room for one more aggregation, which is a thing too.
+    /// Makes room for one more aggregation, which is an entity too.
     pub(crate) fn make_child_room(&mut self) -> Result<(), Memory>
         ensures last { self.new.last.items ≡ self.old.last.items }
         ensures before { self.new.before.items ≡ self.old.before.items }
-        ensures container_room { OnOk result (vec_len self.new.last < vec_capacity self.new.last) }
-        ensures thing_room { OnOk result (vec_len self.new.before < vec_capacity self.new.before) }
+        ensures list_room { OnOk result (vec_len self.new.last < vec_capacity self.new.last) }
+        ensures entity_room { OnOk result (vec_len self.new.before < vec_capacity self.new.before) }
     {
         self.last.try_reserve(1)?;
         self.before.try_reserve(1)?;
         Ok(())
     }
 
-    /// Adds the next aggregation, for which there is room.
-    pub(crate) fn add_container(&mut self)
+    /// Adds the list of the next aggregation, for which there is room.
+    pub(crate) fn add_list(&mut self)
         requires { vec_len self.old.last < vec_capacity self.old.last }
         ensures linked { (containers : List ℕ) (count : ℕ)
             → AreLinked containers count self.old.last.items self.old.before.items
@@ -96,23 +96,23 @@ impl ChildLists {
         push_row(&mut self.last, 0);
     }
 
-    /// Adds the next thing, for which there is room, to the aggregation.
-    pub(crate) fn add_thing(&mut self, container: AggNo)
+    /// Adds the next entity, for which there is room, to the aggregation.
+    pub(crate) fn add_entity(&mut self, aggregation: AggNo)
         requires room { vec_len self.old.before < vec_capacity self.old.before }
         requires few { length self.old.before.items ≤ 200_000 }
-        requires low { 0 < container }
-        requires high { container ≤ length self.old.last.items }
+        requires low { 0 < aggregation }
+        requires high { aggregation ≤ length self.old.last.items }
         ensures { (containers : List ℕ) (count : ℕ)
             → AreLinked containers count self.old.last.items self.old.before.items
-            → AreLinked (containers ++ container ∷ []) count self.new.last.items
+            → AreLinked (containers ++ aggregation ∷ []) count self.new.last.items
             self.new.before.items }
     {
-        let before = self.last(container);
+        let before = self.last(aggregation);
         push_row(&mut self.before, before);
-        self.last[container as usize - 1] = self.before.len() as ThingNo;
+        self.last[aggregation as usize - 1] = self.before.len() as EntityNo;
     }
 
-    /// Adds the next thing, for which there is room, which is in no aggregation.
+    /// Adds the next entity, for which there is room, which is in no aggregation.
     pub(crate) fn add_outside(&mut self)
         requires { vec_len self.old.before < vec_capacity self.old.before }
         ensures { (containers : List ℕ) (count : ℕ)
@@ -122,8 +122,8 @@ impl ChildLists {
         push_row(&mut self.before, 0);
     }
 
-    /// Adds the next thing, for which there is room, to the aggregation that is its parent, if it
-    /// has one.
+    /// Adds the next entity, for which there is room, to the aggregation that is its parent, if
+    /// it has one.
     pub(crate) fn add_child(&mut self, parent: Option<AggNo>)
         requires room { vec_len self.old.before < vec_capacity self.old.before }
         requires few { length self.old.before.items ≤ 200_000 }
@@ -134,7 +134,7 @@ impl ChildLists {
             self.new.before.items }
     {
         match parent {
-            Some(container) => self.add_thing(container),
+            Some(aggregation) => self.add_entity(aggregation),
             None => self.add_outside(),
         }
     }
@@ -147,8 +147,8 @@ fn empty_child_lists(alloc: Global, count: usize) -> Result<ChildLists, Memory>
 {
     let mut child_lists = ChildLists::new(alloc);
     for _i in 0..count {
-        child_lists.make_container_room()?;
-        child_lists.add_container();
+        child_lists.make_list_room()?;
+        child_lists.add_list();
     }
     Ok(child_lists)
 }
@@ -168,8 +168,8 @@ pub(crate) fn link_records(
 {
     let mut child_lists = empty_child_lists(alloc, count)?;
     for i in 0..records.len() {
-        child_lists.make_thing_room()?;
-        child_lists.add_thing(records[i].aggregation);
+        child_lists.make_entity_room()?;
+        child_lists.add_entity(records[i].aggregation);
     }
     Ok(child_lists)
 }
@@ -188,7 +188,7 @@ pub(crate) fn link_aggregations(
 {
     let mut child_lists = empty_child_lists(alloc, aggregations.len())?;
     for i in 0..aggregations.len() {
-        child_lists.make_thing_room()?;
+        child_lists.make_entity_room()?;
         child_lists.add_child(aggregations[i].parent);
     }
     Ok(child_lists)

@@ -111,22 +111,22 @@ impl ClassIndex {
     }
 
     /// Puts each record of the aggregation on the list of its class, and goes through these alone.
-    pub(crate) fn reindex_container(
+    pub(crate) fn reindex_records_in(
         &mut self,
         rows: &Rows<'_>,
         directory: &Directory,
-        container: AggNo,
+        aggregation: AggNo,
     )
         requires ready { CanRefresh rows.now directory.now }
-        requires there { IsTrue (has_aggregation rows.now container) }
+        requires there { IsTrue (has_aggregation rows.now aggregation) }
         requires places { HasPlaces rows.now self.old }
         ensures keeps { KeepsNumbers self.old self.new }
         ensures listed { AreRenewed
             (IsOfClass (from_entries self.old.numbers.entries) rows.now.aggregations
-            rows.now.records) rows.now.records (is_in container)
+            rows.now.records) rows.now.records (is_in aggregation)
             self.old.class_lists.class.items self.new.class_lists.class.items }
     {
-        let mut at = directory.records_in.last(container);
+        let mut at = directory.records_in.last(aggregation);
         while at != 0 {
             self.reindex(rows, at);
             at = directory.records_in.before(at);

@@ -57,7 +57,7 @@ impl Directory {
             ≡ from_entries self.old.by_aggregation_ref.entries) }
     {
         self.summaries.try_reserve(1)?;
-        self.records_in.make_container_room()?;
+        self.records_in.make_list_room()?;
         self.aggregations_in.make_child_room()?;
         put_ref(&mut self.by_aggregation_ref, alloc, ref_text, number)
     }
@@ -81,7 +81,7 @@ impl Directory {
             (from_entries {R = code_cmp} self.new.by_record_ref.entries
             ≡ from_entries self.old.by_record_ref.entries) }
     {
-        self.records_in.make_thing_room()?;
+        self.records_in.make_entity_room()?;
         put_ref(&mut self.by_record_ref, alloc, ref_text, number)
     }
 
@@ -90,34 +90,40 @@ impl Directory {
     pub(crate) fn add_record(
         &mut self,
         aggregations: &[Aggregation],
-        container: AggNo,
+        aggregation: AggNo,
         day: Day,
-        is_live: bool,
+        is_active: bool,
     ) -> bool
         requires forest { IsForest aggregations.now }
         requires roots { RootsHaveClasses aggregations.now }
-        requires low { 0 < container }
-        requires high { container ≤ length aggregations.now }
+        requires low { 0 < aggregation }
+        requires high { aggregation ≤ length aggregations.now }
         requires room { HasRoom self.old.records_in.before }
         requires things { length self.old.records_in.before.items ≤ 200_000 }
         requires containers { length self.old.records_in.last.items ≡ length aggregations.now }
         requires count { length self.old.summaries.items ≡ length aggregations.now }
         requires few { (a : ℕ) (it : AggregationSummary) → numbered self.old.summaries.items a
-            ≡ Some it → (it.records ≤ 200_000) × (it.live ≤ 200_000) }
+            ≡ Some it → (it.records ≤ 200_000) × (it.active ≤ 200_000) }
         ensures keeps { KeepsBesideRecords self.old self.new }
         ensures by_record_ref { self.new.by_record_ref ≡ self.old.by_record_ref }
         ensures linked { (containers : List ℕ) (count : ℕ)
             → AreLinked containers count self.old.records_in.last.items
             self.old.records_in.before.items
-            → AreLinked (containers ++ container ∷ []) count self.new.records_in.last.items
+            → AreLinked (containers ++ aggregation ∷ []) count self.new.records_in.last.items
             self.new.records_in.before.items }
-        ensures noted { AreAdded aggregations.now container day is_live self.old.summaries.items
+        ensures noted { AreAdded aggregations.now aggregation day is_active self.old.summaries.items
             self.new.summaries.items }
-        ensures quiet { result ≡ false → IsQuiet self.old.summaries.items container day }
+        ensures quiet { result ≡ false → IsQuiet self.old.summaries.items aggregation day }
     {
-        self.records_in.add_thing(container);
-        let is_later = is_later(&self.summaries, container, day);
-        note_addition(&mut self.summaries, aggregations, container, day, is_live);
+        self.records_in.add_entity(aggregation);
+        let is_later = is_later(&self.summaries, aggregation, day);
+        note_addition(
+            &mut self.summaries,
+            aggregations,
+            aggregation,
+            day,
+            is_active,
+        );
         is_later
     }
 }

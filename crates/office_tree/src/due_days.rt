@@ -56,7 +56,7 @@ pub(crate) fn start_in(
     schedule: Schedule,
     record_no: RecordNo,
 ) -> Option<Day>
-    requires container { (head : Record) → numbered records.now record_no ≡ Some head
+    requires aggregation { (head : Record) → numbered records.now record_no ≡ Some head
         → (0 < head.aggregation) × (head.aggregation ≤ length aggregations.now) }
     requires low { 0 < record_no }
     requires high { record_no ≤ length records.now }

@@ -87,11 +87,11 @@ impl Tree {
         let summary = AggregationSummary {
             last_addition: None,
             records: 0,
-            live: 0,
+            active: 0,
         };
         push_row(&mut self.derived.directory.summaries, summary);
-        self.derived.directory.records_in.add_container();
-        self.derived.directory.aggregations_in.add_container();
+        self.derived.directory.records_in.add_list();
+        self.derived.directory.aggregations_in.add_list();
         self.derived.directory.aggregations_in.add_child(parent);
         Ok(())
     }
@@ -111,20 +111,20 @@ impl Tree {
             &mut self.derived,
             &head.ref_text,
         )?;
-        let container = head.aggregation;
+        let aggregation = head.aggregation;
         let day = head.added;
-        let is_live = status.is_live();
+        let is_active = status.is_active();
         push_row(&mut self.records, head);
         push_row(&mut self.statuses, status);
         let is_later = self
             .derived
             .directory
-            .add_record(&self.aggregations, container, day, is_live);
+            .add_record(&self.aggregations, aggregation, day, is_active);
         let rows = rows_of!(self);
         self.derived
             .per_record
             .record_caches
-            .add_computed(&rows, &self.derived.directory, container, is_later);
+            .add_computed(&rows, &self.derived.directory, aggregation, is_later);
         self.derived.per_record.class_index.add_listed(&rows);
         Ok(())
     }

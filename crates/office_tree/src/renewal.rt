@@ -1,7 +1,7 @@
 //! What is derived of a record, or of some, computed anew from the rows after a change.
 ghost use Rattle.std.specs.Prelude.{◌≡◌, ◌+◌, ◌<◌, ◌≤◌, ◌&&◌, IfOk, IsTrue, length, vec_len};
 ghost use Rattle.office_tree.specs.Derived.{AreClassRight, AreExtended, AreRenewed, CanCache, CanRefresh, HasPlaces, IsPutRight, IsRenewed};
-ghost use Rattle.office_tree.specs.Inheriting.{is_heir, is_reached};
+ghost use Rattle.office_tree.specs.Inheriting.{inherits_from, is_affected};
 ghost use Rattle.office_tree.specs.RecordCaches.{AreRecordCaches, IsRecordCache};
 ghost use Rattle.office_tree.specs.Rooms.{HasRoom};
 ghost use Rattle.office_tree.specs.Stored.{is_in};
@@ -53,19 +53,19 @@ impl RecordCaches {
 
     /// Computes anew what is cached of the records of one aggregation, and goes through these
     /// alone.
-    pub(crate) fn refresh_container(
+    pub(crate) fn refresh_records_in(
         &mut self,
         rows: &Rows<'_>,
         directory: &Directory,
-        container: AggNo,
+        aggregation: AggNo,
     )
         requires ready { CanRefresh rows.now directory.now }
-        requires there { IsTrue (has_aggregation rows.now container) }
+        requires there { IsTrue (has_aggregation rows.now aggregation) }
         requires many { length self.old.rows.items ≡ length rows.now.records }
         ensures { AreRenewed (IsRecordCache directory.now.schedule_numbers rows.now)
-            rows.now.records (is_in container) self.old.rows.items self.new.rows.items }
+            rows.now.records (is_in aggregation) self.old.rows.items self.new.rows.items }
     {
-        let mut at = directory.records_in.last(container);
+        let mut at = directory.records_in.last(aggregation);
         while at != 0 {
             self.refresh(rows, directory, at);
             at = directory.records_in.before(at);
@@ -80,22 +80,22 @@ impl RecordCaches {
         &mut self,
         rows: &Rows<'_>,
         directory: &Directory,
-        container: AggNo,
+        aggregation: AggNo,
         is_later: bool,
     )
         requires ready { CanRefresh rows.now directory.now }
-        requires there { IsTrue (has_aggregation rows.now container) }
+        requires there { IsTrue (has_aggregation rows.now aggregation) }
         requires row_room { HasRoom self.old.rows }
         requires mark_room { vec_len self.old.rows < length self.old.candidates }
         requires many { length self.old.rows.items + 1 ≡ length rows.now.records }
         ensures { AreExtended (IsRecordCache directory.now.schedule_numbers rows.now)
-            rows.now.records (λ head. is_later && is_in container head) self.old.rows.items
+            rows.now.records (λ head. is_later && is_in aggregation head) self.old.rows.items
             self.new.rows.items }
     {
         self.push();
         self.refresh(rows, directory, rows.records.len() as RecordNo);
         if is_later {
-            self.refresh_container(rows, directory, container);
+            self.refresh_records_in(rows, directory, aggregation);
         }
     }
 }
@@ -110,11 +110,11 @@ impl PerRecord {
         requires many { length self.old.record_caches.rows.items ≡ length rows.now.records }
         requires places { HasPlaces rows.now self.old.class_index }
         ensures { IsRenewed rows.now directory.now.schedule_numbers
-            (is_heir rows.now.aggregations from) (is_heir rows.now.aggregations from)
+            (inherits_from rows.now.aggregations from) (inherits_from rows.now.aggregations from)
             self.old self.new }
     {
-        self.record_caches.refresh_container(rows, directory, from);
-        self.class_index.reindex_container(rows, directory, from);
+        self.record_caches.refresh_records_in(rows, directory, from);
+        self.class_index.reindex_records_in(rows, directory, from);
         let mut child = directory.aggregations_in.last(from);
         while child != 0 {
             if !rows.has_own_class(child) {
@@ -124,9 +124,9 @@ impl PerRecord {
         }
     }
 
-    /// Computes anew what is cached of the records that an edited aggregation reaches: those in it,
-    /// and, where its own class may be another, those that inherit from it.
-    pub(crate) fn refresh_reached(
+    /// Computes anew what is cached of the records that an edit of an aggregation affects: those in
+    /// it, and, where its own class may be another, those that inherit from it.
+    pub(crate) fn refresh_affected(
         &mut self,
         rows: &Rows<'_>,
         directory: &Directory,
@@ -138,15 +138,15 @@ impl PerRecord {
         requires many { length self.old.record_caches.rows.items ≡ length rows.now.records }
         requires places { HasPlaces rows.now self.old.class_index }
         ensures { IsRenewed rows.now directory.now.schedule_numbers
-            (is_reached rows.now.aggregations aggregation reclassifies)
-            (λ head. reclassifies && is_heir rows.now.aggregations aggregation head)
+            (is_affected rows.now.aggregations aggregation reclassifies)
+            (λ head. reclassifies && inherits_from rows.now.aggregations aggregation head)
             self.old self.new }
     {
         if reclassifies {
             self.refresh_inheriting(rows, directory, aggregation);
         } else {
             self.record_caches
-                .refresh_container(rows, directory, aggregation);
+                .refresh_records_in(rows, directory, aggregation);
         }
     }
 }

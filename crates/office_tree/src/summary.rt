@@ -3,7 +3,7 @@ ghost use Rattle.std.specs.Prelude.{◌≡◌, ◌+◌, ◌-◌, ◌<◌, ◌≤
 ghost use Rattle.std.specs.List.{All};
 ghost use Rattle.office_records.specs.Lists.{numbered};
 ghost use Rattle.office_records.specs.Sound.{IsForest, IsSound, RootsHaveClasses};
-ghost use Rattle.office_tree.specs.Summaries.{AreAdded, AreSummaries, AreTurned, IsQuiet, is_in_chain};
+ghost use Rattle.office_tree.specs.Summaries.{AreAdded, AreAfterStatusChange, AreSummaries, IsQuiet, is_in_chain};
 ghost use Rattle.office_records.specs.Tree.{TreeState};
 
 use crate::change_refusals::is_ended;
@@ -20,7 +20,7 @@ use std::alloc::Global;
 pub(crate) struct AggregationSummary {
     pub(crate) last_addition: Option<Day>,
     pub(crate) records: u32,
-    pub(crate) live: u32,
+    pub(crate) active: u32,
 }
 
 /// Adds one to the records below each aggregation of these numbers.
@@ -40,33 +40,33 @@ fn add_records(summaries: &mut [AggregationSummary], numbers: &[AggNo])
 }
 
 /// Adds one to the records that are not ended below each aggregation of these numbers.
-fn add_live(summaries: &mut [AggregationSummary], numbers: &[AggNo])
+fn add_active(summaries: &mut [AggregationSummary], numbers: &[AggNo])
     requires within { All (λ b. (0 < b) × (b ≤ length summaries.old)) numbers.now }
     requires short { length numbers.now ≤ 8 }
     requires few { (a : ℕ) (it : AggregationSummary) → numbered summaries.old a ≡ Some it
-        → it.live ≤ 200_000 }
+        → it.active ≤ 200_000 }
     ensures { (a : ℕ) (it : AggregationSummary) → numbered summaries.old a ≡ Some it
         → numbered summaries.new a
-        ≡ Some (record it { live = it.live + count_by (λ b. b == a) numbers.now }) }
+        ≡ Some (record it { active = it.active + count_by (λ b. b == a) numbers.now }) }
 {
     for number in numbers {
         let summary = &mut summaries[*number as usize - 1];
-        summary.live += 1;
+        summary.active += 1;
     }
 }
 
 /// Takes one from the records that are not ended below each aggregation of these numbers.
-fn take_live(summaries: &mut [AggregationSummary], numbers: &[AggNo])
+fn take_active(summaries: &mut [AggregationSummary], numbers: &[AggNo])
     requires within { All (λ b. (0 < b) × (b ≤ length summaries.old)) numbers.now }
     requires some { (a : ℕ) (it : AggregationSummary) → numbered summaries.old a ≡ Some it
-        → count_by (λ b. b == a) numbers.now ≤ it.live }
+        → count_by (λ b. b == a) numbers.now ≤ it.active }
     ensures { (a : ℕ) (it : AggregationSummary) → numbered summaries.old a ≡ Some it
         → numbered summaries.new a
-        ≡ Some (record it { live = it.live - count_by (λ b. b == a) numbers.now }) }
+        ≡ Some (record it { active = it.active - count_by (λ b. b == a) numbers.now }) }
 {
     for number in numbers {
         let summary = &mut summaries[*number as usize - 1];
-        summary.live -= 1;
+        summary.active -= 1;
     }
 }
 
@@ -82,59 +82,61 @@ pub(crate) fn is_later(summaries: &[AggregationSummary], aggregation: AggNo, day
     }
 }
 
-/// Notes that a record was added to its container on that day.
+/// Notes that a record was added to its aggregation on that day.
 pub(crate) fn note_addition(
     summaries: &mut [AggregationSummary],
     aggregations: &[Aggregation],
-    container: AggNo,
+    aggregation: AggNo,
     day: Day,
-    is_live: bool,
+    is_active: bool,
 )
     requires forest { IsForest aggregations.now }
     requires roots { RootsHaveClasses aggregations.now }
-    requires low { 0 < container }
-    requires high { container ≤ length aggregations.now }
+    requires low { 0 < aggregation }
+    requires high { aggregation ≤ length aggregations.now }
     requires count { length summaries.old ≡ length aggregations.now }
     requires few { (a : ℕ) (it : AggregationSummary) → numbered summaries.old a ≡ Some it
-        → (it.records ≤ 200_000) × (it.live ≤ 200_000) }
-    ensures { AreAdded aggregations.now container day is_live summaries.old summaries.new }
+        → (it.records ≤ 200_000) × (it.active ≤ 200_000) }
+    ensures { AreAdded aggregations.now aggregation day is_active summaries.old summaries.new }
 {
-    let numbers = chain_of(aggregations, container);
+    let numbers = chain_of(aggregations, aggregation);
     add_records(summaries, numbers.as_slice());
-    if is_live {
-        add_live(summaries, numbers.as_slice());
+    if is_active {
+        add_active(summaries, numbers.as_slice());
     }
-    let summary = &mut summaries[container as usize - 1];
+    let summary = &mut summaries[aggregation as usize - 1];
     summary.last_addition = Some(later(summary.last_addition, day));
 }
 
-/// Notes that a record of that container was live, or not, and is live now, or not.
-pub(crate) fn note_turn(
+/// Notes that the status of a record in that aggregation changed: whether it was active, and
+/// whether it is active now.
+pub(crate) fn note_status_change(
     summaries: &mut [AggregationSummary],
     aggregations: &[Aggregation],
-    container: AggNo,
-    was_live: bool,
-    is_live: bool,
+    aggregation: AggNo,
+    was_active: bool,
+    is_active: bool,
 )
     requires forest { IsForest aggregations.now }
     requires roots { RootsHaveClasses aggregations.now }
-    requires low { 0 < container }
-    requires high { container ≤ length aggregations.now }
+    requires low { 0 < aggregation }
+    requires high { aggregation ≤ length aggregations.now }
     requires count { length summaries.old ≡ length aggregations.now }
     requires few { (a : ℕ) (it : AggregationSummary) → numbered summaries.old a ≡ Some it
-        → it.live ≤ 200_000 }
+        → it.active ≤ 200_000 }
     requires some { (a : ℕ) (it : AggregationSummary) → numbered summaries.old a ≡ Some it
-        → (is_in_chain aggregations.now container a && was_live) ≡ true → 0 < it.live }
-    ensures { AreTurned aggregations.now container was_live is_live summaries.old summaries.new }
+        → (is_in_chain aggregations.now aggregation a && was_active) ≡ true → 0 < it.active }
+    ensures { AreAfterStatusChange aggregations.now aggregation was_active is_active summaries.old
+        summaries.new }
 {
-    if was_live == is_live {
+    if was_active == is_active {
         return;
     }
-    let numbers = chain_of(aggregations, container);
-    if is_live {
-        add_live(summaries, numbers.as_slice());
+    let numbers = chain_of(aggregations, aggregation);
+    if is_active {
+        add_active(summaries, numbers.as_slice());
     } else {
-        take_live(summaries, numbers.as_slice());
+        take_active(summaries, numbers.as_slice());
     }
 }
 
@@ -145,14 +147,14 @@ fn fresh_summaries(
 ) -> Result<Vec<AggregationSummary>, Memory>
     ensures { IfOk result
         (λ summaries. summaries.items
-        ≡ map (λ _. record { last_addition = None; records = 0; live = 0 }) aggregations.now) }
+        ≡ map (λ _. record { last_addition = None; records = 0; active = 0 }) aggregations.now) }
 {
     let summaries = aggregations
         .iter()
         .map(|_| AggregationSummary {
             last_addition: None,
             records: 0,
-            live: 0,
+            active: 0,
         })
         .collect(alloc)?;
     Ok(summaries)
@@ -172,18 +174,18 @@ fn note_additions(
     requires few { length records.now ≤ 200_000 }
     requires statuses { length statuses.now ≡ length records.now }
     requires fresh { summaries.old
-        ≡ map (λ _. record { last_addition = None; records = 0; live = 0 }) aggregations.now }
+        ≡ map (λ _. record { last_addition = None; records = 0; active = 0 }) aggregations.now }
     ensures { (tree : TreeState) → tree.aggregations ≡ aggregations.now → tree.records ≡ records.now
         → tree.statuses ≡ statuses.now → AreSummaries tree summaries.new }
 {
     for (i, head) in records.iter().enumerate() {
-        let is_live = !is_ended(Some(statuses[i]));
+        let is_active = !is_ended(Some(statuses[i]));
         note_addition(
             summaries,
             aggregations,
             head.aggregation,
             head.added,
-            is_live,
+            is_active,
         );
     }
 }

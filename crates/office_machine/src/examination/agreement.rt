@@ -47,7 +47,7 @@ impl Parts {
         if !self.do_runs_agree() {
             return false;
         }
-        if !self.are_keys_of_live(keys) {
+        if !self.are_active_keys(keys) {
             return false;
         }
         self.are_entries_right()

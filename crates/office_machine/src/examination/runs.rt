@@ -9,7 +9,7 @@ ghost use Rattle.office_days.specs.Limits.{IsDayNumber};
 ghost use Rattle.office_records.specs.Disposal.{is_ended};
 ghost use Rattle.office_records.specs.Lists.{holds_of, numbered};
 ghost use Rattle.office_records.specs.declared.status.Status.{Status};
-ghost use Rattle.office_rules.specs.Loading.{AreKeysOfLive, AreRunsBy};
+ghost use Rattle.office_rules.specs.Loading.{AreActiveKeys, AreRunsBy};
 ghost use Rattle.office_rules.specs.Sound.{IsWellFormedRun, RunsAgree};
 ghost use Rattle.office_rules.specs.declared.run.Run.{Run};
 ghost use Rattle.office_rules.specs.EntryForms.{IsWellFormedEntry};
@@ -115,7 +115,7 @@ fn are_by(runs: &[Run], last: Day) -> bool
 }
 
 /// Whether the record is there and not ended.
-fn is_live(tree: &Tree, record_no: RecordNo) -> bool
+fn is_active(tree: &Tree, record_no: RecordNo) -> bool
     ensures { result
         ≡ holds_of (numbered tree.now.statuses record_no) (λ status. not (is_ended status)) }
 {
@@ -124,13 +124,13 @@ fn is_live(tree: &Tree, record_no: RecordNo) -> bool
 }
 
 /// Whether each key is the number of a record that is not ended.
-fn are_live(tree: &Tree, keys: &[RecordNo]) -> bool
+fn are_active(tree: &Tree, keys: &[RecordNo]) -> bool
     ensures { IsTrue result
         ↔ All
         (λ r. holds_of (numbered tree.now.statuses r) (λ status. not (is_ended status)) ≡ true)
         keys.now }
 {
-    keys.iter().all(|record_no| is_live(tree, *record_no))
+    keys.iter().all(|record_no| is_active(tree, *record_no))
 }
 
 /// Whether the key at that place is the number.
@@ -143,9 +143,9 @@ fn is_key_at(keys: &[RecordNo], at: usize, record_no: RecordNo) -> bool
 
 /// Whether the number of each record that is not ended is a key. Numbers and keys both ascend, so
 /// each is passed once.
-fn are_live_keyed(tree: &Tree, keys: &[RecordNo]) -> bool
+fn are_active_keyed(tree: &Tree, keys: &[RecordNo]) -> bool
     requires ascend { IsStrictlySortedBy nat_cmp keys.now }
-    requires live { All
+    requires active { All
         (λ r. holds_of (numbered tree.now.statuses r) (λ status. not (is_ended status)) ≡ true)
         keys.now }
     ensures yes { IsTrue result → (r : ℕ) (status : Status)
@@ -159,7 +159,7 @@ fn are_live_keyed(tree: &Tree, keys: &[RecordNo]) -> bool
     let mut at = 0;
     for before in 0..tree.record_count() {
         let record_no = before + 1;
-        if !is_live(tree, record_no) {
+        if !is_active(tree, record_no) {
             continue;
         }
         if !is_key_at(keys, at, record_no) {
@@ -171,15 +171,15 @@ fn are_live_keyed(tree: &Tree, keys: &[RecordNo]) -> bool
 }
 
 /// Whether the keys are the numbers of exactly the records that are not ended.
-fn are_keys_of_live(tree: &Tree, keys: &[RecordNo]) -> bool
+fn are_active_keys(tree: &Tree, keys: &[RecordNo]) -> bool
     requires { IsStrictlySortedBy nat_cmp keys.now }
-    ensures yes { IsTrue result → AreKeysOfLive tree.now.statuses (bare_contents keys.now) }
-    ensures no { result ≡ false → AreKeysOfLive tree.now.statuses (bare_contents keys.now) → ⊥ }
+    ensures yes { IsTrue result → AreActiveKeys tree.now.statuses (bare_contents keys.now) }
+    ensures no { result ≡ false → AreActiveKeys tree.now.statuses (bare_contents keys.now) → ⊥ }
 {
-    if !are_live(tree, keys) {
+    if !are_active(tree, keys) {
         return false;
     }
-    are_live_keyed(tree, keys)
+    are_active_keyed(tree, keys)
 }
 
 /// Whether only the last run is open, and the certificates are those of exactly the closed runs.
@@ -256,14 +256,14 @@ impl Parts {
     }
 
     /// Whether these are the numbers of exactly the records that are not ended.
-    pub(crate) fn are_keys_of_live(&self, keys: &[RecordNo]) -> bool
+    pub(crate) fn are_active_keys(&self, keys: &[RecordNo]) -> bool
         requires { IsStrictlySortedBy nat_cmp keys.now }
         ensures yes { IsTrue result
-            → AreKeysOfLive self.now.tree.statuses (bare_contents keys.now) }
-        ensures no { result ≡ false → AreKeysOfLive self.now.tree.statuses (bare_contents keys.now)
+            → AreActiveKeys self.now.tree.statuses (bare_contents keys.now) }
+        ensures no { result ≡ false → AreActiveKeys self.now.tree.statuses (bare_contents keys.now)
             → ⊥ }
     {
-        are_keys_of_live(&self.tree, keys)
+        are_active_keys(&self.tree, keys)
     }
 
     /// Makes known to proofs that runs, entries and the day are of their forms: a call changes

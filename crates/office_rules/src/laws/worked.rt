@@ -97,9 +97,9 @@ pub fn law_of_filing()
         → IsAccepted (refusals_of_add_record first_filed filing_day new) }
     ensures third_record { (new : NewRecord) → AsksFor new (codes "r3") (codes "r3") 1 (codes "abc")
         → IsAccepted (refusals_of_add_record second_filed filing_day new) }
-    ensures filed { (s : Office) (new : NewRecord) (name : List ℕ) (container : ℕ) (bytes : List ℕ)
-        → AsksFor new name name container bytes
-        → after_add_record s filing_day new ≡ with_record s name container bytes }
+    ensures filed { (s : Office) (new : NewRecord) (name : List ℕ) (parent : ℕ) (bytes : List ℕ)
+        → AsksFor new name name parent bytes
+        → after_add_record s filing_day new ≡ with_record s name parent bytes }
 {}
 
 /// Records take the class of their aggregation and its schedule, and are due one year after they

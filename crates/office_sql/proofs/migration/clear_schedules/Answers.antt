@@ -1,6 +1,6 @@
 use Rattle.std.proofs.Common.{refl}
 use Rattle.office_sql.proofs.Inside.{ran_inside}
-use Rattle.office_sql.specs.Editions.{version_2}
+use Rattle.office_sql.specs.SchemaVersions.{version_2}
 use Rattle.office_sql.proofs.OfTwo.{has_schedules}
 use Rattle.office_sql.proofs.RaiseLemmas.{clears}
 use Rattle.office_sql.proofs.migration.clear_schedules.Goals as goal

@@ -1,6 +1,6 @@
 use Rattle.sqlite.specs.Held.{state}
 use Rattle.office_sql.specs.Migrated.{Moved, Raised}
-use Rattle.office_sql.specs.Editions.{version_2}
+use Rattle.office_sql.specs.SchemaVersions.{version_2}
 use Rattle.office_sql.specs.Office.{Removed}
 use Rattle.office_sql.specs.Schema.{schedules}
 use Rattle.std.proofs.Common.{◌∷◌, [], ◌∙◌}

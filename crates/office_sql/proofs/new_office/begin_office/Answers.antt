@@ -1,6 +1,6 @@
 use Rattle.std.proofs.Common.{neg_ℤ, pos}
 use Rattle.sqlite.specs.Held.{state}
-use Rattle.office_sql.specs.Editions.{version_2}
+use Rattle.office_sql.specs.SchemaVersions.{version_2}
 use Rattle.office_sql.specs.declared.tables.OfficeTable.TheVariants as table
 use Rattle.office_sql.proofs.Columns.{columns}
 use Rattle.office_sql.proofs.CreateLemmas.{begins}

@@ -1,6 +1,6 @@
 use Rattle.std.proofs.Common.{Err, drop, take}
 use Rattle.sqlite.specs.Held.{state}
-use Rattle.office_sql.specs.Editions.{version_2}
+use Rattle.office_sql.specs.SchemaVersions.{version_2}
 use Rattle.office_sql.proofs.MakeLemmas.{makes_failed, makes_then}
 use Rattle.office_sql.proofs.new_tables.create_tables.Goals as goal
 

@@ -1,12 +1,12 @@
 use Rattle.std.proofs.Common.{◌≡◌, ◌==◌, inl, inr, not, true, false, length, rules}
 use Rattle.sqlite.specs.Held.{state}
 use Rattle.sqlite.specs.State.{HasCleanDisk, IsUnchanged}
-use Rattle.office_sql.specs.Editions.{tables_of}
+use Rattle.office_sql.specs.SchemaVersions.{tables_of}
 use Rattle.office_sql.specs.Office.{IsAtRestOver}
 use Rattle.office_sql.specs.Reads.{IsByKey, bag_of, key_of}
 use Rattle.office_sql.proofs.RowByRow.{listed}
 use Rattle.office_store.proofs.AtRest.{rest_kept}
-use Rattle.office_store.proofs.EditionFound.{is_nil, none_in, none_shown, not_nil}
+use Rattle.office_store.proofs.SchemaVersionFound.{is_nil, none_in, none_shown, not_nil}
 use Rattle.office_store.proofs.adoption.no_row.Goals as goal
 
 pub returns-in_err-rows-clause-finds : goal.returns-in_err-rows-clause-finds

@@ -4,7 +4,7 @@ use Rattle.std.proofs.lemmas.Result.{IfOk-weaker, IfErr-weaker}
 use Rattle.sqlite.specs.Held.{state}
 use Rattle.sqlite.specs.State.{HasCleanDisk, IsUnchanged}
 use Rattle.office_sql.specs.Bags.{rows_of}
-use Rattle.office_sql.specs.Editions.{tables_of}
+use Rattle.office_sql.specs.SchemaVersions.{tables_of}
 use Rattle.office_sql.specs.Office.{IsAtRestOver}
 use Rattle.office_sql.specs.Schema.{office}
 use Rattle.office_sql.proofs.RowByRow.{office_in}

@@ -1,8 +1,8 @@
 use Rattle.std.proofs.Common.{Ok, arith, refl, sym, subst}
 use Rattle.sqlite.specs.Held.{state}
-use Rattle.office_sql.specs.declared.editions.Edition.TheVariants as edition
+use Rattle.office_sql.specs.declared.schema_versions.SchemaVersion.TheVariants as schema_version
 use Rattle.office_sql.specs.declared.tables.OfficeTable.TheVariants as table
-use Rattle.office_store.specs.Stored.{IsEventPair, IsRowOf, event_handed, event_pair}
+use Rattle.office_store.specs.Stored.{IsEventPair, IsRowOf, event_pair, event_table_row}
 use Rattle.office_store.specs.Taken.{TakesIn}
 use Rattle.office_store.proofs.MoreReadable.{events_readable}
 use Rattle.office_store.proofs.TablesCome.{events_begun, events_whole}
@@ -23,4 +23,4 @@ returns-in-Two-clause-takes g c =
     let had = g.I.Intake.content c.args.intake.now in
     let has = g.I.Intake.content took.new.intake in
     subst (λ ed. TakesIn ed 5 6 old new had has g.I.Intake.examines took.result) (sym c.in-Two.is)
-    (table_taken edition.Two table.Events event_pair (IsRowOf event_pair IsEventPair) event_handed 5 6 (omega arith) (λ db all. all.rows.events refl) events_begun events_whole (events_readable edition.Two) old new had has g.I.Intake.examines took.result (took.ensures.takes edition.Two tt))
+    (table_taken schema_version.Two table.Events event_pair (IsRowOf event_pair IsEventPair) event_table_row 5 6 (omega arith) (λ db all. all.rows.events refl) events_begun events_whole (events_readable schema_version.Two) old new had has g.I.Intake.examines took.result (took.ensures.takes schema_version.Two tt))

@@ -1,5 +1,5 @@
 use Rattle.std.proofs.Common.{rules}
-use Rattle.office_sql.specs.Editions.{version_2}
+use Rattle.office_sql.specs.SchemaVersions.{version_2}
 use Rattle.office_sql.specs.declared.tables.OfficeTable.TheVariants as table
 use Rattle.office_sql.proofs.Columns.{given_columns}
 use Rattle.office_sql.proofs.OfTwo.{has_holds}

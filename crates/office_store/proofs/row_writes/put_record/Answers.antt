@@ -1,7 +1,7 @@
 use Rattle.std.proofs.Common.{◌≡◌, refl, rules}
 use Rattle.hex.specs.Hex.{encode_lower}
 use Rattle.office_rules.specs.Rows.{record_row}
-use Rattle.office_sql.specs.Editions.{version_2}
+use Rattle.office_sql.specs.SchemaVersions.{version_2}
 use Rattle.office_sql.specs.declared.tables.OfficeTable.TheVariants as table
 use Rattle.office_sql.proofs.Columns.{given_columns, one_more}
 use Rattle.office_sql.proofs.OfTwo.{has_records}

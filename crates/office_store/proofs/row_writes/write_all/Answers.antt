@@ -1,7 +1,7 @@
 use Rattle.std.proofs.Common.{◌∙◌}
 use Rattle.sqlite.specs.Held.{state}
 use Rattle.office_store.specs.Written.{IsWritten}
-use Rattle.office_sql.specs.Editions.{version_2}
+use Rattle.office_sql.specs.SchemaVersions.{version_2}
 use Rattle.office_sql.proofs.Inside.{more_gone}
 use Rattle.office_store.proofs.row_writes.write_all.Goals as goal
 

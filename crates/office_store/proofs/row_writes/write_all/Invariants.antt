@@ -1,6 +1,6 @@
 use Rattle.std.proofs.Common.{◌≡◌, take}
 use Rattle.sqlite.specs.Held.{state}
-use Rattle.office_sql.specs.Editions.{version_2}
+use Rattle.office_sql.specs.SchemaVersions.{version_2}
 use Rattle.office_sql.proofs.Inside.{HasGone}
 use Rattle.office_store.specs.Written.{AreWritten}
 use Rattle.office_store.proofs.row_writes.write_all.Given as goal

@@ -9,29 +9,29 @@ use Rattle.office_tree.proofs.ChainCounts.{chain_within, times_chain}
 use Rattle.office_records.proofs.Places.{numbered_or}
 use Rattle.office_tree.proofs.SummarySteps.{times, came, is_equal, not_equal, same_or_not, numbered-set, numbered-set_other}
 use Rattle.office_tree.proofs.summary.note_addition.Goals as goal
-use Rattle.office_tree.proofs.summary.note_addition.Goals.{then-is_live, else-is_live}
+use Rattle.office_tree.proofs.summary.note_addition.Goals.{then-is_active, else-is_active}
 
 -- the numbers are those of aggregations
 pub add_records-requires-clause-within : goal.add_records-requires-clause-within
 add_records-requires-clause-within c =
     let within : List ℕ → Type 0 = λ numbers. All (λ b. (0 < b) × (b ≤ length c.args.summaries.now)) numbers in
     subst within (sym (c.as_slice.ensures.value ∙ c.chain_of-numbers.ensures))
-    (chain_within c.args.aggregations.now c.requires.forest c.args.container (length c.args.summaries.now) c.requires.low (omega arith))
+    (chain_within c.args.aggregations.now c.requires.forest c.args.aggregation (length c.args.summaries.now) c.requires.low (omega arith))
 
-pub add_live-requires-clause-within : goal.add_live-requires-clause-within
-add_live-requires-clause-within c =
+pub add_active-requires-clause-within : goal.add_active-requires-clause-within
+add_active-requires-clause-within c =
     let within : List ℕ → Type 0 = λ numbers. All (λ b. (0 < b) × (b ≤ length c.add_records.new.summaries)) numbers in
-    subst within (sym (c.as_slice-then-is_live.ensures.value ∙ c.chain_of-numbers.ensures))
-    (chain_within c.args.aggregations.now c.requires.forest c.args.container (length c.add_records.new.summaries) c.requires.low (omega arith))
+    subst within (sym (c.as_slice-then-is_active.ensures.value ∙ c.chain_of-numbers.ensures))
+    (chain_within c.args.aggregations.now c.requires.forest c.args.aggregation (length c.add_records.new.summaries) c.requires.low (omega arith))
 
-pub add_live-requires-clause-few : goal.add_live-requires-clause-few
-add_live-requires-clause-few c a it there =
+pub add_active-requires-clause-few : goal.add_active-requires-clause-few
+add_active-requires-clause-few c a it there =
     let from = came (λ n (it : AggregationSummary). record it { records = it.records + n }) c.args.summaries.now c.add_records.new.summaries c.as_slice.result.now a it c.add_records.auto.summaries c.add_records.ensures there in
-    omega (arith, (c.requires.few a from.it from.there).1, ap (λ (x : AggregationSummary). x.live) from.is)
+    omega (arith, (c.requires.few a from.it from.there).1, ap (λ (x : AggregationSummary). x.active) from.is)
 
--- so many records more, live or not
+-- so many records more, active or not
 abbrev counted : ℕ → Bool → AggregationSummary → AggregationSummary
-counted n is_live it = record it { records = it.records + n; live = it.live + cond is_live n 0 }
+counted n is_active it = record it { records = it.records + n; active = it.active + cond is_active n 0 }
 
 both_on : (b l : Bool) → cond {A = ℕ} l (cond b 1 0) 0 ≡ cond (b && l) 1 0
 both_on true true = refl
@@ -39,56 +39,56 @@ both_on true false = refl
 both_on false true = refl
 both_on false false = refl
 
--- a summary is as it is to be once its records are counted and, at its container, its last addition is noted
-noted : (aggregations : List Aggregation) (container : ℕ) (day : ℤ) (is_live : Bool) (a n : ℕ) (it : AggregationSummary) → n ≡ cond (is_in_chain aggregations container a) 1 0 → (here : Bool) → (container == a) ≡ here
-    → record (counted n is_live it) { last_addition = cond here (later it.last_addition day) it.last_addition } ≡ added_to aggregations container day is_live a it
-noted aggregations container day is_live a n it once here is =
-    let live : cond {A = ℕ} is_live n 0 ≡ cond (is_in_chain aggregations container a && is_live) 1 0 = ap (λ k. cond {A = ℕ} is_live k 0) once ∙ both_on (is_in_chain aggregations container a) is_live in
-    (λ t. record { last_addition = cond (sym is t) (later it.last_addition day) it.last_addition; records = it.records + once t; live = it.live + live t })
+-- a summary is as it is to be once its records are counted and, at its own aggregation, the last addition is noted
+noted : (aggregations : List Aggregation) (aggregation : ℕ) (day : ℤ) (is_active : Bool) (a n : ℕ) (it : AggregationSummary) → n ≡ cond (is_in_chain aggregations aggregation a) 1 0 → (here : Bool) → (aggregation == a) ≡ here
+    → record (counted n is_active it) { last_addition = cond here (later it.last_addition day) it.last_addition } ≡ added_to aggregations aggregation day is_active a it
+noted aggregations aggregation day is_active a n it once here is =
+    let active : cond {A = ℕ} is_active n 0 ≡ cond (is_in_chain aggregations aggregation a && is_active) 1 0 = ap (λ k. cond {A = ℕ} is_active k 0) once ∙ both_on (is_in_chain aggregations aggregation a) is_active in
+    (λ t. record { last_addition = cond (sym is t) (later it.last_addition day) it.last_addition; records = it.records + once t; active = it.active + active t })
 
 -- what is there once the last addition is written
-written : (aggregations : List Aggregation) (container : ℕ) (day : ℤ) (is_live : Bool) (a n : ℕ) (it : AggregationSummary) (mid : List AggregationSummary) (d : AggregationSummary) (last : ℤ) → 0 < container → container ≤ length mid → n ≡ cond (is_in_chain aggregations container a) 1 0
-    → numbered mid a ≡ Some (counted n is_live it) → Some last ≡ later (get_or mid (container - 1) d).last_addition day
-    → numbered (set mid (container - 1) (record (get_or mid (container - 1) d) { last_addition = Some last })) a ≡ Some (added_to aggregations container day is_live a it)
-written aggregations container day is_live a n it mid d last low high once there latest =
-    elim (same_or_not a container) [
+written : (aggregations : List Aggregation) (aggregation : ℕ) (day : ℤ) (is_active : Bool) (a n : ℕ) (it : AggregationSummary) (mid : List AggregationSummary) (d : AggregationSummary) (last : ℤ) → 0 < aggregation → aggregation ≤ length mid → n ≡ cond (is_in_chain aggregations aggregation a) 1 0
+    → numbered mid a ≡ Some (counted n is_active it) → Some last ≡ later (get_or mid (aggregation - 1) d).last_addition day
+    → numbered (set mid (aggregation - 1) (record (get_or mid (aggregation - 1) d) { last_addition = Some last })) a ≡ Some (added_to aggregations aggregation day is_active a it)
+written aggregations aggregation day is_active a n it mid d last low high once there latest =
+    elim (same_or_not a aggregation) [
       | inl same ↦
-          let read : Some (get_or mid (container - 1) d) ≡ Some (counted n is_live it) = sym (numbered_or mid container d low high) ∙ ap (numbered mid) (sym same) ∙ there in
-          let was : get_or mid (container - 1) d ≡ counted n is_live it = cc read in
-          ap (numbered (set mid (container - 1) (record (get_or mid (container - 1) d) { last_addition = Some last }))) same
-          ∙ numbered-set mid container (record (get_or mid (container - 1) d) { last_addition = Some last }) low high
-          ∙ ap (λ last. Some (record (get_or mid (container - 1) d) { last_addition = last })) latest
+          let read : Some (get_or mid (aggregation - 1) d) ≡ Some (counted n is_active it) = sym (numbered_or mid aggregation d low high) ∙ ap (numbered mid) (sym same) ∙ there in
+          let was : get_or mid (aggregation - 1) d ≡ counted n is_active it = cc read in
+          ap (numbered (set mid (aggregation - 1) (record (get_or mid (aggregation - 1) d) { last_addition = Some last }))) same
+          ∙ numbered-set mid aggregation (record (get_or mid (aggregation - 1) d) { last_addition = Some last }) low high
+          ∙ ap (λ last. Some (record (get_or mid (aggregation - 1) d) { last_addition = last })) latest
           ∙ ap (λ (x : AggregationSummary). Some (record x { last_addition = later x.last_addition day })) was
-          ∙ ap Some (noted aggregations container day is_live a n it once true (is_equal container a (sym same)))
+          ∙ ap Some (noted aggregations aggregation day is_active a n it once true (is_equal aggregation a (sym same)))
       | inr other ↦
-          numbered-set_other mid container (record (get_or mid (container - 1) d) { last_addition = Some last }) a low high other
+          numbered-set_other mid aggregation (record (get_or mid (aggregation - 1) d) { last_addition = Some last }) a low high other
           ∙ there
-          ∙ ap Some (noted aggregations container day is_live a n it once false (not_equal container a (λ e. other (sym e))))
+          ∙ ap Some (noted aggregations aggregation day is_active a n it once false (not_equal aggregation a (λ e. other (sym e))))
     ]
 
-not_live : (is_live : Bool) (n live : ℕ) → is_live ≡ false → live ≡ live + cond is_live n 0
-not_live is_live n live off = let none : cond is_live n 0 ≡ 0 = ap (λ t. cond t n 0) off in omega (arith, none)
+not_active : (is_active : Bool) (n active : ℕ) → is_active ≡ false → active ≡ active + cond is_active n 0
+not_active is_active n active off = let none : cond is_active n 0 ≡ 0 = ap (λ t. cond t n 0) off in omega (arith, none)
 
 pub returns : goal.returns
 returns c =
     let aggregations = c.args.aggregations.now in
-    let container = c.args.container in
-    let once : (a : ℕ) → times c.as_slice.result.now a ≡ cond (is_in_chain aggregations container a) 1 0 =
-    (λ a. ap (λ numbers. times numbers a) (c.as_slice.ensures.value ∙ c.chain_of-numbers.ensures) ∙ times_chain aggregations c.requires.forest container a c.requires.low) in
-    let mid : (a : ℕ) (it : AggregationSummary) → numbered c.args.summaries.now a ≡ Some it → numbered c.if-is_live.summaries a ≡ Some (counted (times c.as_slice.result.now a) c.args.is_live it) =
-    (λ a it there. elim c.if-is_live.branch [
-      | then-is_live w ↦
-          let same : times w.as_slice-then-is_live.result.now a ≡ cond c.args.is_live (times c.as_slice.result.now a) 0 =
-          ap (λ numbers. times numbers a) (w.as_slice-then-is_live.ensures.value ∙ sym c.as_slice.ensures.value) ∙ ap (λ t. cond t (times c.as_slice.result.now a) 0) (sym w.if-is_live.true) in
+    let aggregation = c.args.aggregation in
+    let once : (a : ℕ) → times c.as_slice.result.now a ≡ cond (is_in_chain aggregations aggregation a) 1 0 =
+    (λ a. ap (λ numbers. times numbers a) (c.as_slice.ensures.value ∙ c.chain_of-numbers.ensures) ∙ times_chain aggregations c.requires.forest aggregation a c.requires.low) in
+    let mid : (a : ℕ) (it : AggregationSummary) → numbered c.args.summaries.now a ≡ Some it → numbered c.if-is_active.summaries a ≡ Some (counted (times c.as_slice.result.now a) c.args.is_active it) =
+    (λ a it there. elim c.if-is_active.branch [
+      | then-is_active w ↦
+          let same : times w.as_slice-then-is_active.result.now a ≡ cond c.args.is_active (times c.as_slice.result.now a) 0 =
+          ap (λ numbers. times numbers a) (w.as_slice-then-is_active.ensures.value ∙ sym c.as_slice.ensures.value) ∙ ap (λ t. cond t (times c.as_slice.result.now a) 0) (sym w.if-is_active.true) in
           ap (λ summaries. numbered summaries a) w.summaries-is
-          ∙ w.add_live.ensures a (record it { records = it.records + times c.as_slice.result.now a }) (c.add_records.ensures a it there)
-          ∙ ap (λ n. Some (record it { records = it.records + times c.as_slice.result.now a; live = it.live + n })) same
-      | else-is_live w ↦
+          ∙ w.add_active.ensures a (record it { records = it.records + times c.as_slice.result.now a }) (c.add_records.ensures a it there)
+          ∙ ap (λ n. Some (record it { records = it.records + times c.as_slice.result.now a; active = it.active + n })) same
+      | else-is_active w ↦
           ap (λ summaries. numbered summaries a) w.summaries-is
           ∙ c.add_records.ensures a it there
-          ∙ ap (λ n. Some (record it { records = it.records + times c.as_slice.result.now a; live = n })) (not_live c.args.is_live (times c.as_slice.result.now a) it.live w.if-is_live.false)
+          ∙ ap (λ n. Some (record it { records = it.records + times c.as_slice.result.now a; active = n })) (not_active c.args.is_active (times c.as_slice.result.now a) it.active w.if-is_active.false)
     ]) in
     record {
-      count = length-set c.if-is_live.summaries (container - 1) (record (get_or c.if-is_live.summaries (container - 1) c.index-summaries-container.result) { last_addition = Some c.later.result }) ∙ c.if-is_live.auto.summaries ∙ c.add_records.auto.summaries;
-      each = λ a it there. written aggregations container c.args.day c.args.is_live a (times c.as_slice.result.now a) it c.if-is_live.summaries c.index-summaries-container.result c.later.result c.requires.low (omega arith) (once a) (mid a it there) c.later.ensures;
+      count = length-set c.if-is_active.summaries (aggregation - 1) (record (get_or c.if-is_active.summaries (aggregation - 1) c.index-summaries-aggregation.result) { last_addition = Some c.later.result }) ∙ c.if-is_active.auto.summaries ∙ c.add_records.auto.summaries;
+      each = λ a it there. written aggregations aggregation c.args.day c.args.is_active a (times c.as_slice.result.now a) it c.if-is_active.summaries c.index-summaries-aggregation.result c.later.result c.requires.low (omega arith) (once a) (mid a it there) c.later.ensures;
     }

@@ -46,7 +46,7 @@ loop-i-preserved c =
     let high : i < length statuses = omega (arith, c.loop-i-test.true, c.requires.statuses) in
     let beside : length (take i statuses) ≡ length (take i records) =
     omega (arith, length-take-le i records c.loop-i.auto.i-end, length-take-le i statuses (omega (arith, high))) in
-    let added = subst (λ (b : Bool). AreAdded aggregations head.aggregation head.added (not b) old new) c.is_ended-is_live.ensures c.note_addition.ensures in
+    let added = subst (λ (b : Bool). AreAdded aggregations head.aggregation head.added (not b) old new) c.is_ended-is_active.ensures c.note_addition.ensures in
     let more_records : take i records ++ head ∷ [] ≡ take (i + 1) records = ap (λ (x : Record). take i records ++ x ∷ []) c.index-records-i.is ∙ sym (take_more records i head c.loop-i-test.true) in
     let more_statuses : take i statuses ++ status ∷ [] ≡ take (i + 1) statuses = sym (take_more statuses i Here high) in
     let P : List Record → List Status → Type 0 = λ xs ys. AreSummaries (rows aggregations xs ys) new in

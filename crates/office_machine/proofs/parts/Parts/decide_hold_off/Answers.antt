@@ -36,4 +36,4 @@ returns c =
     let target = c.in_ok-target.ensures in
     let next = λ (contents : ByteMap). step_hold_off (with_contents s contents) c.args.day c.args.code.now c.args.target.now in
     going s next Done _ c.go.result c.go.ensures (λ change answer writes.
-    uncovering_change s c.args.day c.args.code.now c.args.target.now change accepted (sym answer) (writes ∙ (λ i. row_write.TargetGone (code i) (target i) ∷ day_writes c.args.self.now c.args.day)))
+    uncovering_change s c.args.day c.args.code.now c.args.target.now change accepted (sym answer) (writes ∙ (λ i. row_write.RemoveTarget (code i) (target i) ∷ day_writes c.args.self.now c.args.day)))

@@ -2,7 +2,7 @@ use Rattle.std.proofs.Common.{◌≡◌, ◌∙◌, Bool, true, Ok, ap, subst, s
 use Rattle.office_records.specs.Sound.{RefsDiffer}
 use Rattle.office_rules.specs.State.{Office}
 use Rattle.office_machine.specs.Keys.{bare_contents}
-use Rattle.office_machine.proofs.LiveKeys.{keys_of_bare}
+use Rattle.office_machine.proofs.ActiveKeys.{keys_of_bare}
 use Rattle.office_machine.proofs.FoundSound.{found_sound, sound_endings, sound_parts}
 use Rattle.office_machine.proofs.parts.Parts.is_sound.Goals as goal
 

@@ -3,7 +3,7 @@ use Rattle.std.proofs.lemmas.Result.{IfOk-weaker, IfErr-weaker}
 use Rattle.sqlite.specs.Effect.{Database}
 use Rattle.sqlite.specs.Held.{state}
 use Rattle.office_rules.specs.Rows.{rows_of}
-use Rattle.office_sql.specs.declared.editions.Edition.TheVariants as edition
+use Rattle.office_sql.specs.declared.schema_versions.SchemaVersion.TheVariants as schema_version
 use Rattle.office_sql.specs.Migrated.{Migrates}
 use Rattle.office_store.specs.Calling.{AreMoved}
 use Rattle.office_store.specs.RepresentsRows.{AreOfficeTables, OldRepresentsRows, RepresentsRows}
@@ -17,7 +17,7 @@ returns-then-version-ne1-clause-moved g c = record {
   clean = search rules;
   shield = λ shielded. shielded;
   moved = λ s clean holds.
-      let reported : pos c.version.result ≡ pos 1 = c.version.ensures.rest edition.One holds.rest in
+      let reported : pos c.version.result ≡ pos 1 = c.version.ensures.rest schema_version.One holds.rest in
       let one : c.version.result ≡ 1 = cc in
       let other : c.version.result ≢ 1 = search rules in
       absurd (other one);
@@ -45,7 +45,7 @@ returns-clause-moved g c =
             ok = IfOk-weaker r _ _ (λ x did. record { rest = did.1; represents = moved_represent t old.now new.now holds.represents did.0 }) (moves.ok clean holds.rest ready);
             err = IfErr-weaker r _ _ (λ x left db may. elim (left db may) [
               | inl same ↦ inl same
-              | inr next ↦ inr (subst (RepresentsRows t) (sym next.2) (moved_represent t old.now next.0 holds.represents next.1), subst AreOfficeTables (sym next.2) (over_trees edition.Two next.0 next.1.is_office))
+              | inr next ↦ inr (subst (RepresentsRows t) (sym next.2) (moved_represent t old.now next.0 holds.represents next.1), subst AreOfficeTables (sym next.2) (over_trees schema_version.Two next.0 next.1.is_office))
             ]) (moves.err clean holds.rest ready);
             undone = λ is_open. IfErr-weaker r _ _ (λ x left. record { rest = left.1; represents = subst (λ (d : Database). OldRepresentsRows t d.trees) (sym left.0) holds.represents }) (moves.undone clean holds.rest ready is_open);
             rest = rest_moved t.day old new r clean holds.rest ready moves;
@@ -74,7 +74,7 @@ returns-in_err-migrate_all-clause-moved g c =
             ok = IfOk-weaker r _ _ (λ x did. record { rest = did.1; represents = moved_represent t old.now new.now holds.represents did.0 }) (moves.ok clean holds.rest ready);
             err = IfErr-weaker r _ _ (λ x left db may. elim (left db may) [
               | inl same ↦ inl same
-              | inr next ↦ inr (subst (RepresentsRows t) (sym next.2) (moved_represent t old.now next.0 holds.represents next.1), subst AreOfficeTables (sym next.2) (over_trees edition.Two next.0 next.1.is_office))
+              | inr next ↦ inr (subst (RepresentsRows t) (sym next.2) (moved_represent t old.now next.0 holds.represents next.1), subst AreOfficeTables (sym next.2) (over_trees schema_version.Two next.0 next.1.is_office))
             ]) (moves.err clean holds.rest ready);
             undone = λ is_open. IfErr-weaker r _ _ (λ x left. record { rest = left.1; represents = subst (λ (d : Database). OldRepresentsRows t d.trees) (sym left.0) holds.represents }) (moves.undone clean holds.rest ready is_open);
             rest = rest_moved t.day old new r clean holds.rest ready moves;

@@ -3,13 +3,13 @@ use Rattle.std.specs.FinMap.{from_entries}
 use Rattle.office_tree.specs.ClassIndex.{IsOfClass, NumberMap}
 use Rattle.office_tree.specs.ChildLists.{IsLastBelow, parents_of}
 use Rattle.office_tree.specs.Derived.{KeepsNumbers}
-use Rattle.office_tree.specs.Inheriting.{is_heir}
+use Rattle.office_tree.specs.Inheriting.{inherits_from}
 use Rattle.office_tree.specs.RecordCaches.{IsRecordCache}
 use Rattle.office_tree.specs.Stored.{AreDone}
 use Rattle.office_records.specs.Tree.{code_cmp}
 use Rattle.office_tree.specs.declared.per_record.PerRecord.{PerRecord}
 use Rattle.office_tree.specs.declared.record_cache.RecordCache.{RecordCache}
-use Rattle.office_tree.proofs.Heirs.{HeirsAbove, heirs_all, heirs_last, heirs_next, heirs_skip}
+use Rattle.office_tree.proofs.InheritingChildren.{AreRenewedAbove, renewed_all, renewed_last, renewed_next, renewed_skip}
 use Rattle.office_records.proofs.Reading.{aggregation_within}
 use Rattle.office_tree.proofs.per_record.PerRecord.+refresh_inheriting.Goals.{then-not-has_own_class, else-not-has_own_class, After-before-child}
 use Rattle.office_tree.proofs.per_record.PerRecord.+refresh_inheriting.Goals as goal
@@ -19,11 +19,11 @@ loop-child-init t c =
     let rows = c.args.rows.now in
     let last = c.requires.ready.aggregations_in.lasts c.args.from c.last-child.result c.last-child.ensures in
     record {
-      looks = heirs_last (IsRecordCache c.args.directory.now.schedule_numbers rows) rows.records rows.aggregations c.args.from c.last-child.result c.args.self.now.record_caches.rows.items c.refresh_container.new.self.rows.items c.refresh_container.ensures.count c.refresh_container.ensures.done last;
-      keeps = c.reindex_container.ensures.keeps;
+      looks = renewed_last (IsRecordCache c.args.directory.now.schedule_numbers rows) rows.records rows.aggregations c.args.from c.last-child.result c.args.self.now.record_caches.rows.items c.refresh_records_in.new.self.rows.items c.refresh_records_in.ensures.count c.refresh_records_in.ensures.done last;
+      keeps = c.reindex_records_in.ensures.keeps;
       classes =
-          heirs_last (IsOfClass (from_entries {R = code_cmp} c.args.self.now.class_index.numbers.entries) rows.aggregations rows.records) rows.records rows.aggregations c.args.from c.last-child.result c.args.self.now.class_index.class_lists.class.items c.reindex_container.new.self.class_lists.class.items
-          c.reindex_container.ensures.listed.count c.reindex_container.ensures.listed.done last;
+          renewed_last (IsOfClass (from_entries {R = code_cmp} c.args.self.now.class_index.numbers.entries) rows.aggregations rows.records) rows.records rows.aggregations c.args.from c.last-child.result c.args.self.now.class_index.class_lists.class.items c.reindex_records_in.new.self.class_lists.class.items
+          c.reindex_records_in.ensures.listed.count c.reindex_records_in.ensures.listed.done last;
     }
 
 -- the child before
@@ -50,29 +50,29 @@ loop-child-preserved t c =
           let same = so_far.keeps.same in
           let now = w.refresh_inheriting.new.self in
           let renewed = w.refresh_inheriting.ensures in
-          let done = subst (λ (numbers : NumberMap). AreDone (IsOfClass numbers xs rows.records) rows.records (is_heir xs c.loop-child.child) c.loop-child.self.class_index.class_lists.class.items now.class_index.class_lists.class.items)
+          let done = subst (λ (numbers : NumberMap). AreDone (IsOfClass numbers xs rows.records) rows.records (inherits_from xs c.loop-child.child) c.loop-child.self.class_index.class_lists.class.items now.class_index.class_lists.class.items)
           (λ i. from_entries {R = code_cmp} (same i).entries) renewed.listed.done in
           record {
             looks =
-                subst (λ (those : PerRecord). HeirsAbove IsRight rows.records xs c.args.from c.before-child.result old those.record_caches.rows.items) (sym w.self-is)
-                (heirs_next IsRight rows.records xs c.args.from c.loop-child.child c.before-child.result old c.loop-child.self.record_caches.rows.items now.record_caches.rows.items so_far.looks renewed.caches.count renewed.caches.done before_is);
+                subst (λ (those : PerRecord). AreRenewedAbove IsRight rows.records xs c.args.from c.before-child.result old those.record_caches.rows.items) (sym w.self-is)
+                (renewed_next IsRight rows.records xs c.args.from c.loop-child.child c.before-child.result old c.loop-child.self.record_caches.rows.items now.record_caches.rows.items so_far.looks renewed.caches.count renewed.caches.done before_is);
             keeps =
                 subst (λ (those : PerRecord). KeepsNumbers c.args.self.now.class_index those.class_index) (sym w.self-is)
                 (record { same = renewed.keeps.same ∙ same; lists = renewed.keeps.lists ∙ so_far.keeps.lists });
             classes =
-                subst (λ (those : PerRecord). HeirsAbove IsClassed rows.records xs c.args.from c.before-child.result of those.class_index.class_lists.class.items) (sym w.self-is)
-                (heirs_next IsClassed rows.records xs c.args.from c.loop-child.child c.before-child.result of c.loop-child.self.class_index.class_lists.class.items now.class_index.class_lists.class.items so_far.classes renewed.listed.count done before_is);
+                subst (λ (those : PerRecord). AreRenewedAbove IsClassed rows.records xs c.args.from c.before-child.result of those.class_index.class_lists.class.items) (sym w.self-is)
+                (renewed_next IsClassed rows.records xs c.args.from c.loop-child.child c.before-child.result of c.loop-child.self.class_index.class_lists.class.items now.class_index.class_lists.class.items so_far.classes renewed.listed.count done before_is);
           }
       | else-not-has_own_class w ↦
           let own = sym c.has_own_class.ensures ∙ w.if-not-has_own_class.false in
           record {
             looks =
-                subst (λ (those : PerRecord). HeirsAbove IsRight rows.records xs c.args.from c.before-child.result old those.record_caches.rows.items) (sym w.self-is)
-                (heirs_skip IsRight rows.records xs c.args.from c.loop-child.child c.before-child.result old c.loop-child.self.record_caches.rows.items so_far.looks own before_is);
+                subst (λ (those : PerRecord). AreRenewedAbove IsRight rows.records xs c.args.from c.before-child.result old those.record_caches.rows.items) (sym w.self-is)
+                (renewed_skip IsRight rows.records xs c.args.from c.loop-child.child c.before-child.result old c.loop-child.self.record_caches.rows.items so_far.looks own before_is);
             keeps = subst (λ (those : PerRecord). KeepsNumbers c.args.self.now.class_index those.class_index) (sym w.self-is) so_far.keeps;
             classes =
-                subst (λ (those : PerRecord). HeirsAbove IsClassed rows.records xs c.args.from c.before-child.result of those.class_index.class_lists.class.items) (sym w.self-is)
-                (heirs_skip IsClassed rows.records xs c.args.from c.loop-child.child c.before-child.result of c.loop-child.self.class_index.class_lists.class.items so_far.classes own before_is);
+                subst (λ (those : PerRecord). AreRenewedAbove IsClassed rows.records xs c.args.from c.before-child.result of those.class_index.class_lists.class.items) (sym w.self-is)
+                (renewed_skip IsClassed rows.records xs c.args.from c.loop-child.child c.before-child.result of c.loop-child.self.class_index.class_lists.class.items so_far.classes own before_is);
           }
     ]
 
@@ -83,11 +83,11 @@ returns t c =
     record {
       caches = record {
         count = so_far.looks.count;
-        done = heirs_all (IsRecordCache c.args.directory.now.schedule_numbers rows) rows.records rows.aggregations c.args.from c.loop-child.child c.args.self.now.record_caches.rows.items c.loop-child.self.record_caches.rows.items so_far.looks (omega (arith, c.loop-child-test.false));
+        done = renewed_all (IsRecordCache c.args.directory.now.schedule_numbers rows) rows.records rows.aggregations c.args.from c.loop-child.child c.args.self.now.record_caches.rows.items c.loop-child.self.record_caches.rows.items so_far.looks (omega (arith, c.loop-child-test.false));
       };
       keeps = so_far.keeps;
       listed = record {
         count = so_far.classes.count;
-        done = heirs_all (IsOfClass (from_entries {R = code_cmp} c.args.self.now.class_index.numbers.entries) rows.aggregations rows.records) rows.records rows.aggregations c.args.from c.loop-child.child c.args.self.now.class_index.class_lists.class.items c.loop-child.self.class_index.class_lists.class.items so_far.classes (omega (arith, c.loop-child-test.false));
+        done = renewed_all (IsOfClass (from_entries {R = code_cmp} c.args.self.now.class_index.numbers.entries) rows.aggregations rows.records) rows.records rows.aggregations c.args.from c.loop-child.child c.args.self.now.class_index.class_lists.class.items c.loop-child.self.class_index.class_lists.class.items so_far.classes (omega (arith, c.loop-child-test.false));
       };
     }

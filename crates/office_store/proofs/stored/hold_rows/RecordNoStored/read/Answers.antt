@@ -12,7 +12,7 @@ row_of_number row (Ok n) e h = whole_row row (number_row n) e (h, tt)
 row_of_number row (Err e) _ _ = tt
 
 pub returns-clause-ok : goal.returns-clause-ok
-returns-clause-ok c = row_of_number c.args.row.now c.thing_number.result c.in_ok-has_columns.ensures.ok c.thing_number.ensures.ok
+returns-clause-ok c = row_of_number c.args.row.now c.entity_number.result c.in_ok-has_columns.ensures.ok c.entity_number.ensures.ok
 
 -- and it is of its form where the number is
 number_formed : {E : Type 0} (row : List Value) (r : Result ℕ E) → IfOk r (λ n. row ≡ number_row n) → IfOk r IsNumber → OnOk r (IsRowOf number_row IsNumber row)
@@ -20,4 +20,4 @@ number_formed row (Ok n) is few = (n, few, is)
 number_formed row (Err e) _ _ = tt
 
 pub returns-clause-formed : goal.returns-clause-formed
-returns-clause-formed c = number_formed c.args.row.now c.thing_number.result (returns-clause-ok c) c.thing_number.ensures.formed
+returns-clause-formed c = number_formed c.args.row.now c.entity_number.result (returns-clause-ok c) c.entity_number.ensures.formed
