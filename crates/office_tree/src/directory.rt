@@ -99,7 +99,7 @@ impl Directory {
         requires low { 0 < aggregation }
         requires high { aggregation ≤ length aggregations.now }
         requires room { HasRoom self.old.records_in.before }
-        requires things { length self.old.records_in.before.items ≤ 200_000 }
+        requires entities { length self.old.records_in.before.items ≤ 200_000 }
         requires containers { length self.old.records_in.last.items ≡ length aggregations.now }
         requires count { length self.old.summaries.items ≡ length aggregations.now }
         requires few { (a : ℕ) (it : AggregationSummary) → numbered self.old.summaries.items a

@@ -18,26 +18,26 @@ use office_records::{AggNo, Aggregation, Class, Code, Event, Record, RecordNo, S
 use std::alloc::Global;
 use std::collections::BTreeMap;
 
-/// How many things have codes.
-fn count<V>(things: &BTreeMap<Code, V>) -> usize
-    ensures { result ≡ len (from_entries {R = code_cmp} things.now.entries) }
+/// How many schedules or classes have codes.
+fn count<V>(by_code: &BTreeMap<Code, V>) -> usize
+    ensures { result ≡ len (from_entries {R = code_cmp} by_code.now.entries) }
 {
-    things.len()
+    by_code.len()
 }
 
-/// Whether there is a thing of that code.
-fn has<V>(things: &BTreeMap<Code, V>, code: &Code) -> bool
-    ensures { result ≡ contains_key (from_entries {R = code_cmp} things.now.entries) code.now }
+/// Whether there is a schedule or class of that code.
+fn has<V>(by_code: &BTreeMap<Code, V>, code: &Code) -> bool
+    ensures { result ≡ contains_key (from_entries {R = code_cmp} by_code.now.entries) code.now }
 {
-    things.contains_key(code)
+    by_code.contains_key(code)
 }
 
-/// Whether there is a thing of the code, if one is given.
-fn is_there<V>(things: &BTreeMap<Code, V>, code: &Option<Code>) -> bool
-    ensures { result ≡ is_there (from_entries {R = code_cmp} things.now.entries) code.now }
+/// The same, of a code that may not be given.
+fn is_there<V>(by_code: &BTreeMap<Code, V>, code: &Option<Code>) -> bool
+    ensures { result ≡ is_there (from_entries {R = code_cmp} by_code.now.entries) code.now }
 {
     match code {
-        Some(code) => has(things, code),
+        Some(code) => has(by_code, code),
         None => true,
     }
 }
