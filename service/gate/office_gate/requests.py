@@ -74,7 +74,21 @@ def read(files: list[Path]) -> list[Request]:
                 it.answered_at = seconds(entry["at"])
             if it.acts is None and isinstance(entry.get("answer"), dict):
                 it.answers = [entry["answer"]]
-    return list(found.values())
+    return settled(list(found.values()))
+
+
+def settled(requests: list[Request]) -> list[Request]:
+    """Says of each request without an answer by when it was done, or never was: by the office's next answer to an act.
+
+    The office serves one request after another, in the order in which they come.
+    """
+    by = float("inf")
+    for it in reversed(requests):
+        if not it.is_known:
+            it.answered_at = by
+        elif it.status < 500:
+            by = it.answered_at
+    return requests
 
 
 # ---- contents, which the journal has not
