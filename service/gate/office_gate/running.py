@@ -46,7 +46,10 @@ async def watch(gate: Gate) -> None:
 async def prune(gate: Gate) -> None:
     while True:
         await asyncio.sleep(PRUNE_SECONDS)
-        await asyncio.to_thread(gate.journal.contents.prune, gate.access.content_days)
+        try:
+            await asyncio.to_thread(gate.journal.contents.prune, gate.access.content_days)
+        except OSError as error:
+            say(f"contents are not removed, and it is tried again in an hour: {error}")
 
 
 async def serve(gate: Gate, at: socket.socket) -> None:
