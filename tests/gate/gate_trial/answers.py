@@ -9,6 +9,7 @@ import socket
 import subprocess
 import threading
 import time
+from typing import Any
 
 from gate_trial.base import SETTINGS
 from gate_trial.judging import judge, same
@@ -17,7 +18,7 @@ from gate_trial.world import HERE, TOKEN, World
 RECORD = b'{"number":1,"class":"BLDG1","status":"here","aggregation":1}'
 ACT = {"act": "place-hold", "code": "H", "reason": "r"}
 # what an office refuses, but nobody knows that of a request without an answer
-STRANGE = [{"act": "reclassify", "target": it, "class": "BLDG1"} for it in
+STRANGE: list[dict[str, Any]] = [{"act": "reclassify", "target": it, "class": "BLDG1"} for it in
            ("aggregation:x", "aggregation:", "aggregation:1:2", "aggregation:" + "9" * 30, ["aggregation:1"], None)]
 STRANGE += [{"act": "reclassify", "target": "aggregation:1", "class": it} for it in ({"a": 1}, 1.5, ["BLDG1"], 10**30, True)]
 STRANGE += [{"act": "add-aggregation", "ref": {}, "title": 1, "class": {"a": 1}, "parent": "x"},
