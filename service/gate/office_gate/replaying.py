@@ -12,9 +12,9 @@ from office_gate.body import Json, text_of
 from office_gate.errors import Refused
 from office_gate.places import Places
 from office_gate.playing import Player, copy
-from office_gate.requests import Kept, Request, Span, differences, keys_of, needs_of
+from office_gate.requests import Kept, Request, Span, around, differences, keys_of, needs_of
 
-MOST_TRIED = 40
+MOST_TRIED = 400
 """for one answer that differs so many requests are tried otherwise"""
 STEPS = 64
 """of a run that was cut so many steps are tried"""
@@ -32,7 +32,11 @@ class Difference:
     at: int
     keys: set[str]
     text: str
-    count: int = 0
+    place: int = 0
+
+    def comes_after(self, other: "Difference") -> bool:
+        """Whether it is further on, be it within the same list of acts."""
+        return (self.at, self.place) > (other.at, other.place)
 
 
 def differs(where: str, answer: object, seen: object) -> str:
@@ -116,7 +120,7 @@ class Replay:
             if place < len(request.answers) and text_of(request.answers[place]) != text_of(seen):
                 given = request.answers[place]
                 return Difference(at, needs_of(act, given, seen),
-                                  differs(f"line {request.line}, act {place}", given, seen))
+                                  differs(f"line {request.line}, act {place}", given, seen), place)
         return None
 
     def one(self, at: int) -> Difference | None:
@@ -180,16 +184,24 @@ class Replay:
 
     def mended(self, difference: Difference) -> Difference | None:
         """Finds a way on which the answers are right up to here and further. Returns what differs then."""
+        self.widen(difference)
         for at in self.open_before(difference):
             for way in range(len(self.spans[at])):
                 if way == self.chosen[at]:
                     continue
                 found = self.otherwise({at: way})
-                if found is None or found.at > difference.at:
+                if found is None or found.comes_after(difference):
                     self.keep()
                     return found
                 self.forget()
         raise Refused(1, difference.text)
+
+    def widen(self, difference: Difference) -> None:
+        """Adds the files and classes of the records: what was given to these decides about the records too."""
+        self.player.stop()
+        place = self.folder / "now.db"
+        copy(self.player.file, place)
+        difference.keys |= around(place, difference.keys)
 
     # ---- the rows in the end
 
@@ -218,18 +230,20 @@ class Replay:
         keys = set().union(*(it for _, it in rows))
         those = [it for it in self.open_before(Difference(len(self.requests), keys, "")) if self.concerns(it, keys)]
         named = sorted(it for it in those if self.concerns(it, keys) > 1)
-        groups = deque(it for it in (named, sorted(set(those) - set(named))) if it)
+        groups = deque((it, 1) for it in (named, sorted(set(those) - set(named))) if it)
         while groups:
-            some = groups.popleft()
-            for more in range(1, max(len(self.spans[it]) for it in some) if len(some) == 1 else 2):
-                others = {at: (self.chosen[at] + more) % len(self.spans[at]) for at in some}
-                if self.otherwise(others) is None and len(found := self.rows(beside)) < len(rows):
-                    self.keep()
-                    return found
-                self.forget()
+            some, more = groups.popleft()
+            others = {at: (self.chosen[at] + more) % len(self.spans[at]) for at in some}
+            if self.otherwise(others) is None and len(found := self.rows(beside)) < len(rows):
+                self.keep()
+                return found
+            self.forget()
             if len(some) > 1:
                 middle = len(some) // 2
-                groups += [some[middle:], some[:middle]]
+                groups += [(some[middle:], 1), (some[:middle], 1)]
+            elif more + 1 < len(self.spans[some[0]]):
+                # other ways of one come after the first one of all
+                groups.append((some, more + 1))
         return None
 
 

@@ -16,6 +16,7 @@ from office_gate.starting import Places
 
 BACKLOG = 4096
 STOP_SECONDS = 300
+TURNS = 20
 PRUNE_SECONDS = 3600
 
 
@@ -83,6 +84,9 @@ async def serve(gate: Gate, at: socket.socket) -> None:
 async def drained(front: Front) -> None:
     """Waits until each connection that was accepted has its answer, and each act whose client went away is done."""
     ends = time.monotonic() + STOP_SECONDS
+    # one that was accepted a moment ago is among them only after some turns of the loop
+    for _ in range(TURNS):
+        await asyncio.sleep(0)
     while (front.connections or front.under_way) and time.monotonic() < ends:
         await asyncio.sleep(0.01)
 

@@ -6,7 +6,7 @@ import sys
 import traceback
 from collections.abc import Awaitable
 
-from aiohttp import web
+from aiohttp import HttpVersion10, HttpVersion11, web
 from aiohttp.web_protocol import RequestHandler
 
 from office_gate import guards
@@ -180,8 +180,10 @@ def entry(name: str, request: web.BaseRequest, lines: Lines) -> dict[str, object
 
 
 def method(request: web.BaseRequest) -> None:
-    """Refuses a path that is none, and another method than that of the path."""
+    """Refuses another HTTP than 1.0 and 1.1, a path that is none, and another method than that of the path."""
     path = request.raw_path
+    if request.version not in (HttpVersion10, HttpVersion11):
+        raise Answered(400, "head")
     if path in POSTS:
         if request.method != "POST":
             raise Answered(405, "method")

@@ -201,8 +201,7 @@ def beside(world: World) -> None:
     world.stop_gate()
     status, said = check(world.journal)
     judge(f"the chain holds over {turns} rotations", status == 0 and "from line 1," in said and turns > 2, (turns, said))
-    lines = [json.loads(it) for place in world.folder.glob("journal-202602*") for it in place.read_bytes().splitlines()]
-    lines += whole_lines(world)
+    lines = [it for place in [*world.folder.glob("journal-202602*"), world.journal] for it in whole_in(place)]
     count = Counter(it["request"].split("/")[1] for it in lines if it["what"] in ("asked", "read"))
     same("lines of readings and acts", (count["records"], count["acts"]), (4 * EACH, 4 * EACH))
 
@@ -323,7 +322,11 @@ def readings(world: World) -> None:
 
 
 def whole_lines(world: World) -> list[dict]:
-    lines = world.journal.read_bytes().split(b"\n")
+    return whole_in(world.journal)
+
+
+def whole_in(place: pathlib.Path) -> list[dict]:
+    lines = place.read_bytes().split(b"\n")
     return [json.loads(it) for it in lines if it.startswith(b'{"before"') and it.endswith(b"}")]
 
 

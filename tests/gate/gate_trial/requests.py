@@ -147,11 +147,17 @@ def paths(world: World) -> None:
                  "http://localhost/acts", "*", "/replica", "/vault/" + "a" * 64):
         wanted(world, f"POST {path}", head("Content-Length: 2", first=f"POST {path} HTTP/1.1") + b"[]", 404, 405, 400)
     for first in ("POST http://localhost/acts HTTP/1.1", "POST https://localhost/acts HTTP/1.1", "POST acts HTTP/1.1",
-                  "POST localhost:443 HTTP/1.1", "CONNECT localhost:443 HTTP/1.1", "POST  /acts HTTP/1.1",
-                  "POST /acts HTTP/2.0", "POST /acts", "Post /acts HTTP/1.1", "POST /Acts HTTP/1.1",
+                  "POST localhost:443 HTTP/1.1", "POST /acts HTTP/2.0", "POST /acts HTTP/0.9", "POST /acts", "Post /acts HTTP/1.1", "POST /Acts HTTP/1.1",
                   "POST /acts\t HTTP/1.1", "POST /Run/resume HTTP/1.1", "POST /run/resume/ HTTP/1.1",
                   "POST /run/resume?x HTTP/1.1", "POST /run%2fresume HTTP/1.1", "GET /run/resume HTTP/1.1"):
         wanted(world, first, head("Content-Length: 2", first=first) + b"[]", 404, 405, 400)
+    # what follows is no request of HTTP, so this one may get no answer
+    wanted(world, "CONNECT", head("Content-Length: 2", first="CONNECT localhost:443 HTTP/1.1") + b"[]", 404, 405, 400, 0)
+    for first in ("POST  /acts HTTP/1.1", "POST /acts  HTTP/1.1", "POST /acts HTTP/1.0"):
+        length, name = f"Content-Length: {len(BODY)}", "Office-Name: auditor"
+        wanted(world, first, head(length, name, first=first, without="Office-Name") + BODY, 403, 400)
+        judge(f"{first}: it is the request that the journal has", world.last("refused")["request"]
+              in ("POST /acts", "no request"), world.last("refused"))
     for path in (b"/records/\xff", b"/records/\xed\xa0\x80", b"/records/1\xff/content"):
         wanted(world, f"GET {path!r}", head(first="GET @ HTTP/1.1").replace(b"@", path), 404, 400)
     for path in ("/records/01", "/records/1/", "/records/1/content/", "/records/1%2fcontent", "/records/+1",

@@ -26,9 +26,10 @@ def tried(folder: pathlib.Path) -> None:
     of_the_office(world)
     cut(world)
     of_the_gate(world)
+    accepted(world)
     gone(world)
     away(world)
-    same("systemd is told of the end", (world.stop_gate(), notes.has(b"STOPPING=1", ROUNDS + 3)), (0, True))
+    same("systemd is told of the end", (world.stop_gate(), notes.has(b"STOPPING=1", 5 * ROUNDS + 3)), (0, True))
     judge("the chain holds", world.check().returncode == 0, world.check().stderr)
     world.end()
 
@@ -146,6 +147,28 @@ def of_the_gate(world: World) -> None:
     same("and is in the journal", [json.loads(it)["what"] for it in world.journal.read_bytes().splitlines()[-2:]],
          ["answered", "closed"])
     world.start_gate()
+
+
+def accepted(world: World) -> None:
+    """Who was accepted at the very end is answered too: short requests, so that the end often meets one that begins."""
+    stop, found = threading.Event(), []
+
+    def ask() -> None:
+        while not stop.is_set():
+            found.append(world.ask("auditor", "GET", "/rights")[0])
+
+    threads = [threading.Thread(target=ask) for _ in range(3)]
+    for it in threads:
+        it.start()
+    for _ in range(4 * ROUNDS):
+        time.sleep(0.1)
+        world.stop_gate()
+        world.start_gate()
+    stop.set()
+    for it in threads:
+        it.join()
+    same("each short request was answered", set(found), {200})
+    judge("there were many", len(found) > 200, len(found))
 
 
 def away(world: World) -> None:
