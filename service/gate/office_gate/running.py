@@ -71,7 +71,7 @@ async def serve(gate: Gate, at: socket.socket) -> None:
     print("listening", flush=True)
     await stop.wait()
     tell("STOPPING=1")
-    server.close()
+    await closed(server, at)
     await drained(front)
     for it in tasks:
         it.cancel()
@@ -81,12 +81,17 @@ async def serve(gate: Gate, at: socket.socket) -> None:
     gate.journal.close()
 
 
+async def closed(server: asyncio.Server, at: socket.socket) -> None:
+    """Takes no more connections. asyncio would drop one that it accepted in the turn before a server closes."""
+    asyncio.get_running_loop().remove_reader(at)
+    for _ in range(TURNS):
+        await asyncio.sleep(0)
+    server.close()
+
+
 async def drained(front: Front) -> None:
     """Waits until each connection that was accepted has its answer, and each act whose client went away is done."""
     ends = time.monotonic() + STOP_SECONDS
-    # one that was accepted a moment ago is among them only after some turns of the loop
-    for _ in range(TURNS):
-        await asyncio.sleep(0)
     while (front.connections or front.under_way) and time.monotonic() < ends:
         await asyncio.sleep(0.01)
 
