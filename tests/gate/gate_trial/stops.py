@@ -26,8 +26,10 @@ def tried(folder: pathlib.Path) -> None:
     of_the_office(world)
     cut(world)
     of_the_gate(world)
+    accepted(world)
     gone(world)
-    same("systemd is told of the end", (world.stop_gate(), notes.has(b"STOPPING=1", ROUNDS + 3)), (0, True))
+    away(world)
+    same("systemd is told of the end", (world.stop_gate(), notes.has(b"STOPPING=1", 5 * ROUNDS + 3)), (0, True))
     judge("the chain holds", world.check().returncode == 0, world.check().stderr)
     world.end()
 
@@ -145,6 +147,52 @@ def of_the_gate(world: World) -> None:
     same("and is in the journal", [json.loads(it)["what"] for it in world.journal.read_bytes().splitlines()[-2:]],
          ["answered", "closed"])
     world.start_gate()
+
+
+def accepted(world: World) -> None:
+    """Who was accepted at the very end is answered too: short requests, so that the end often meets one that begins."""
+    stop, found = threading.Event(), []
+
+    def ask() -> None:
+        while not stop.is_set():
+            found.append(world.ask("auditor", "GET", "/rights")[0])
+
+    threads = [threading.Thread(target=ask) for _ in range(3)]
+    for it in threads:
+        it.start()
+    for _ in range(4 * ROUNDS):
+        time.sleep(0.1)
+        world.stop_gate()
+        world.start_gate()
+    stop.set()
+    for it in threads:
+        it.join()
+    same("each short request was answered", set(found), {200})
+    judge("there were many", len(found) > 200, len(found))
+
+
+def away(world: World) -> None:
+    """An office that does not come back: however many wait, each is told after two minutes, and none of it is done."""
+    world.stop_office()
+    began, found = time.monotonic(), []
+    hold = {"act": "place-hold", "reason": "r"}
+
+    def wait(name: str, *act: dict) -> None:
+        answer = world.act(name, *act) if act else world.get(name, "/records/1")
+        found.append((answer, time.monotonic() - began))
+
+    threads = [threading.Thread(target=wait, args=it) for it in
+               (*(("legal", {**hold, "code": f"AWAY{it}"}) for it in range(3)), ("registry", {"act": "close-aggregation",
+                "aggregation": 1}), ("auditor",), ("department", {"act": "event", "record": 1, "occurred": today()}))]
+    for it in threads:
+        it.start()
+    for it in threads:
+        it.join()
+    same("each is told that nothing was done", [it for it, _ in found], [(503, {"error": "office"})] * len(threads))
+    judge("after two minutes", all(119 < seconds < 150 for _, seconds in found), [seconds for _, seconds in found])
+    world.start_office()
+    same("nothing was done", [world.act("legal", {**hold, "code": f"AWAY{it}"})[0] for it in range(3)], [200] * 3)
+    same("nor the rest", world.act("registry", {"act": "close-aggregation", "aggregation": 1}), (200, [{"done": True}]))
 
 
 def gone(world: World) -> None:
