@@ -24,6 +24,7 @@ def tried(folder: pathlib.Path) -> None:
     same("the plan", world.act("records-manager", *plan())[0], 200)
     judge("the watchdog hears from it", notes.has(b"WATCHDOG=1", 10))
     of_the_office(world)
+    had(world)
     cut(world)
     of_the_gate(world)
     gone(world)
@@ -92,13 +93,46 @@ def of_the_office(world: World) -> None:
     time.sleep(0.5)
     found = clients.end()
     statuses = [status for status, _ in found]
-    judge("each request has an answer", set(statuses) <= {200, 409, 502}, set(statuses))
+    # no code is there twice, so a refusal would say that an act was sent twice
+    judge("each request has an answer", set(statuses) <= {200, 502}, set(statuses))
     # one that the office had, and one that it was about to take as it ended
     judge("two at most were lost at each kill", statuses.count(502) <= 2 * ROUNDS, statuses.count(502))
     judge("its answer says so", all(said == {"error": "unknown"} for status, said in found if status == 502))
     unknown = [it for it in world.lines() if it["what"] == "answered" and it.get("known") is False]
     same("the journal says so too", len(unknown), statuses.count(502))
     judge("most of them were done", statuses.count(200) > len(statuses) // 2, len(statuses))
+
+
+def asked(world: World, code: str) -> dict:
+    """Waits until an act is in the journal, and a moment more, so that the office has it. Returns its line."""
+    while True:
+        for it in world.lines():
+            if it["what"] == "asked" and it["acts"][0].get("code") == code:
+                time.sleep(0.5)
+                return it
+        time.sleep(0.05)
+
+
+def answered(world: World, line: dict) -> list[dict]:
+    """Returns the lines of the answers to a request."""
+    return [it for it in world.lines() if it["what"] == "answered" and it["of"] == line["line"]]
+
+
+def had(world: World) -> None:
+    """An office is killed that has an act and does nothing with it: that is not sent to the next one."""
+    hold = {"act": "place-hold", "code": "HAD", "reason": "r"}
+    found: list = []
+    assert world.office is not None
+    world.office.send_signal(signal.SIGSTOP)
+    one = threading.Thread(target=lambda: found.append(world.act("legal", hold)))
+    one.start()
+    line = asked(world, "HAD")
+    world.stop_office()
+    world.start_office()
+    one.join()
+    same("an act that the office had is unknown", found, [(502, {"error": "unknown"})])
+    same("the journal says so", [(it["status"], it["known"]) for it in answered(world, line)], [(502, False)])
+    same("it was not sent again", world.act("legal", hold), (200, [{"done": True}]))
 
 
 def cut(world: World) -> None:
@@ -154,8 +188,7 @@ def gone(world: World) -> None:
     lines = {**HERE, "Office-Token": TOKEN, "Office-Name": "legal", "Content-Length": str(len(body))}
     head = "".join(f"{key}: {value}\r\n" for key, value in lines.items())
     link = world.connected(f"POST /acts HTTP/1.1\r\n{head}\r\n".encode() + body)
-    while not any(it["what"] == "asked" and it["acts"][0]["code"] == "GONE" for it in world.lines() if "acts" in it):
-        time.sleep(0.05)
+    line = asked(world, "GONE")
     link.close()
     time.sleep(0.5)
     world.gate.send_signal(signal.SIGTERM)
@@ -163,6 +196,6 @@ def gone(world: World) -> None:
     world.office.send_signal(signal.SIGCONT)
     same("the gate ends well", world.gate.wait(), 0)
     world.gate.stdout.close()
-    same("the journal has the answer", [world.last(it).get("answers") for it in ("answered",)], [[{"done": True}]])
-    same("and it is the end", world.lines()[-1]["what"], "closed")
+    same("the journal has the answer", [it.get("answers") for it in answered(world, line)], [[{"done": True}]])
+    same("and then the end", world.lines()[-1]["what"], "closed")
     world.start_gate()
