@@ -9,7 +9,7 @@ import subprocess
 import time
 
 TOP = pathlib.Path(__file__).resolve().parents[3]
-OFFICE = os.environ.get("OFFICE") or str(TOP / "out/office")
+OFFICE = os.environ.get("OFFICE") or str(TOP / "crates/office/out/office")
 SOURCES = pathlib.Path(os.environ.get("GATE_SOURCES") or TOP / "service")
 GATE = SOURCES / "gate/office-gate"
 JOURNAL = SOURCES / "gate/office-journal"
