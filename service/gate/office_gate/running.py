@@ -67,8 +67,11 @@ async def serve(gate: Gate, at: socket.socket) -> None:
     print("listening", flush=True)
     await stop.wait()
     tell("STOPPING=1")
-    server.close()
+    # Whoever comes now waits at the socket. A server that is closed drops what it accepted a moment ago, so this one
+    # takes no more first, and is closed once all is answered.
+    loop.remove_reader(at)
     await drained(front)
+    server.close()
     for it in tasks:
         it.cancel()
     await front.shutdown(1)
@@ -80,6 +83,8 @@ async def serve(gate: Gate, at: socket.socket) -> None:
 async def drained(front: Front) -> None:
     """Waits until each connection that was accepted has its answer, and each act whose client went away is done."""
     ends = time.monotonic() + STOP_SECONDS
+    # a connection that was accepted a moment ago is among them only after a turn of the loop
+    await asyncio.sleep(0.01)
     while (front.connections or front.under_way) and time.monotonic() < ends:
         await asyncio.sleep(0.01)
 

@@ -6,12 +6,17 @@ import signal
 import socket
 import threading
 import time
+from collections import Counter
 
 from gate_trial.base import SETTINGS, plan
 from gate_trial.judging import judge, same
 from gate_trial.world import HERE, TOKEN, World, today
 
 ROUNDS = 5
+STOPS = 20
+"""so often the gate stops under requests: one that comes as it stops is seldom"""
+LONG = b"[" + b'{"act":"lift-hold"},' * 50_000
+"""what the gate reads for a while, and refuses, so that much comes in one turn of its loop"""
 
 
 def tried(folder: pathlib.Path) -> None:
@@ -28,7 +33,7 @@ def tried(folder: pathlib.Path) -> None:
     cut(world)
     of_the_gate(world)
     gone(world)
-    same("systemd is told of the end", (world.stop_gate(), notes.has(b"STOPPING=1", ROUNDS + 3)), (0, True))
+    same("systemd is told of the end", (world.stop_gate(), notes.has(b"STOPPING=1", STOPS + 3)), (0, True))
     judge("the chain holds", world.check().returncode == 0, world.check().stderr)
     world.end()
 
@@ -82,6 +87,27 @@ class Clients:
         return self.found
 
 
+class Long:
+    """Clients that send long bodies, which are no lists, until they are stopped."""
+
+    def __init__(self, world: World, count: int = 3) -> None:
+        self.world, self.stop = world, threading.Event()
+        self.found: list[int] = []
+        self.threads = [threading.Thread(target=self.run) for _ in range(count)]
+        for it in self.threads:
+            it.start()
+
+    def run(self) -> None:
+        while not self.stop.is_set():
+            self.found.append(self.world.ask("legal", "POST", "/acts", LONG)[0])
+
+    def end(self) -> list[int]:
+        self.stop.set()
+        for it in self.threads:
+            it.join()
+        return self.found
+
+
 def of_the_office(world: World) -> None:
     """Requests wait while the office is away. What was under way as it was killed is unknown, and nobody says else."""
     clients = Clients(world)
@@ -104,13 +130,17 @@ def of_the_office(world: World) -> None:
 
 
 def asked(world: World, code: str) -> dict:
-    """Waits until an act is in the journal, and a moment more, so that the office has it. Returns its line."""
-    while True:
-        for it in world.lines():
-            if it["what"] == "asked" and it["acts"][0].get("code") == code:
-                time.sleep(0.5)
-                return it
+    """Waits until an act is in the journal, while the office stands still, and a moment more, so that the office has it.
+    Returns its line."""
+    found: list[dict] = []
+    for _ in range(400):
+        found = [it for it in world.lines() if it["what"] == "asked" and it["acts"][0].get("code") == code]
+        if found:
+            break
         time.sleep(0.05)
+    judge(f"{code} is in the journal before the office does it", found)
+    time.sleep(0.5)
+    return found[0] if found else {"line": 0}
 
 
 def answered(world: World, line: dict) -> list[dict]:
@@ -152,16 +182,16 @@ def cut(world: World) -> None:
 
 def of_the_gate(world: World) -> None:
     """While the gate stops and starts nobody is refused: what comes waits at the socket."""
-    clients = Clients(world)
-    for _ in range(ROUNDS):
-        time.sleep(0.3)
+    clients, long = Clients(world, 8), Long(world)
+    for _ in range(STOPS):
+        time.sleep(0.1)
         same("it ends well", world.stop_gate(), 0)
         world.start_gate()
     time.sleep(0.5)
-    found = clients.end()
-    statuses = [status for status, _ in found]
-    same("each request was done", set(statuses), {200})
-    judge("there were some", len(statuses) > 10, len(statuses))
+    refused, statuses = long.end(), [status for status, _ in clients.end()]
+    same("each request was done", Counter(statuses), {200: len(statuses)})
+    same("each long one was refused", Counter(refused), {400: len(refused)})
+    judge("there were some", len(statuses) > 10 and len(refused) > STOPS, (len(statuses), len(refused)))
     # an act that is under way as the end is asked for is done, and answered
     world.office.send_signal(signal.SIGSTOP)
     answers: list = []
