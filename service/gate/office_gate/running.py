@@ -92,6 +92,8 @@ async def closed(server: asyncio.Server, at: socket.socket) -> None:
 async def drained(front: Front) -> None:
     """Waits until each connection that was accepted has its answer, and each act whose client went away is done."""
     ends = time.monotonic() + STOP_SECONDS
+    # a connection that was accepted a moment ago is among them only after a turn of the loop
+    await asyncio.sleep(0.01)
     while (front.connections or front.under_way) and time.monotonic() < ends:
         await asyncio.sleep(0.01)
 

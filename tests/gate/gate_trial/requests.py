@@ -30,10 +30,10 @@ def head(*more: str, first: str = "POST /acts HTTP/1.1", without: str = "") -> b
     return "\r\n".join([first, *(f"{name}: {value}" for name, value in lines.items()), *more, "", ""]).encode()
 
 
-def wanted(world: World, what: str, data: bytes, *statuses: int, half: bool = False) -> object:
+def wanted(world: World, what: str, data: bytes, *statuses: int, half: bool = False, later: float = 0) -> object:
     """Sends bytes that are refused, and looks for their line in the journal."""
     count = len(world.lines())
-    status, body = parted(world.raw(data, half))
+    status, body = parted(world.raw(data, half, later))
     judge(f"{what}: {statuses}", status in statuses, (status, body))
     lines = world.lines()[count:]
     for _ in range(100):
@@ -81,9 +81,10 @@ def forms(world: World) -> None:
 
 def cut(world: World) -> None:
     """A body that ends before its length does nothing."""
-    for length in (len(BODY) + 1, len(BODY) + 5000, 1048576):
-        wanted(world, f"a body cut at {len(BODY)} of {length}", head(f"Content-Length: {length}") + BODY, 400, 0,
-               half=True)
+    # at once, or while the gate waits for more
+    for length, later in ((len(BODY) + 1, 0.0), (len(BODY) + 1, 0.3), (len(BODY) + 5000, 0.0), (1048576, 0.3)):
+        wanted(world, f"a body cut at {len(BODY)} of {length} after {later} s", head(f"Content-Length: {length}") + BODY,
+               400, 0, half=True, later=later)
         same("the word in the journal", world.last("refused")["answer"], {"error": "body"})
     same("a head that is cut gets no answer", world.raw(head("Content-Length: 51")[:40], half=True)[:12] in
          (b"", b"HTTP/1.1 400"), True)
