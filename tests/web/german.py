@@ -66,6 +66,7 @@ def views(it: Browser, proxy: Proxy, addresses: dict[str, str]) -> None:
             it.open(proxy.page + address)
             there, most = it.driver.execute_script(looks.WIDE)
             judge(f"German: {name}: nothing is wider than {width} pixels", there <= most, str(there))
+            same(f"German: {name}: no text reaches over its box at {width}", it.driver.execute_script(looks.OVER), [])
         it.width(1280)
 
 
