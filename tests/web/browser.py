@@ -59,6 +59,7 @@ class Browser:
     def go(self, hash_):
         """Goes to another view, as a link does."""
         self.driver.execute_script("location.hash = arguments[0]", hash_)
+        time.sleep(0.1)
         self.settled()
 
     def settled(self):
