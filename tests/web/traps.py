@@ -48,7 +48,7 @@ window.Date = class extends Real {
 
 def printed(it: Browser, folder: pathlib.Path) -> str:
     it.paper(folder / "trap.pdf")
-    words = ["pdftotext", "-layout", folder / "trap.pdf", "-"]
+    words = ["pdftotext", "-layout", str(folder / "trap.pdf"), "-"]
     return subprocess.run(words, check=True, stdout=subprocess.PIPE).stdout.decode()
 
 
