@@ -125,7 +125,7 @@ TRAPS = (
     Mistake("the saved targets have no refs", "views/targets.js", 'csvOf(["kind", "target", "ref", "title"], rows,', 'csvOf(["kind", "target"], rows,',
             "holds: the targets are saved as CSV"),
     Mistake("a day is broken", "css/paper.css", ".day { white-space: nowrap; overflow-wrap: normal; }", ".day { display: inline; word-break: break-all; }",
-            "record?number=1: no day is broken at 400 pixels"),
+            "record?number=1: no day is broken at 400 pixels and below"),
     Mistake("a list is not read anew once its view shows", "views/list.js", "return this.open(this.question, true);", "return true;",
             "due: and so does its showing again"),
     Mistake("what is held is marked with the rest", "views/list.js", "(row.held !== null) === isHeld", "(!isHeld || row.held !== null)",
