@@ -1,5 +1,5 @@
-"""Two trials of a member to which its etcd's answers come late, or never: it tells no age that is too small, and nobody is
-told that nothing is in the log while something may be."""
+"""Two trials of a member to which its etcd's answers come late, or never: it tells no age that is too small, and
+nobody is told that nothing is in the log while something may be."""
 from __future__ import annotations
 
 import random

@@ -1,4 +1,4 @@
-"""Mistakes in the program of a member, each with the trial that sees it: a part of tests/replicas, or a trial of `hard`."""
+"""Mistakes in the program of a member, each with the trial of `hard` in tests/replicas that sees it."""
 from __future__ import annotations
 
 from typing import NamedTuple
@@ -84,7 +84,11 @@ MUTANTS = [
            '        with self.lock:\n            shutil.rmtree(self.place(position), ignore_errors=True)\n'
            '            new.rename(self.place(position))\n        sync(self.place(position))\n', "synced"),
     Mutant("a snapshot is copied while entries are done", "follower.py",
-           "        with self.office.lock, memo.at_rest():\n            yield\n", "        yield\n", "kills"),
+           "        with self.office.lock, memo.at_rest():\n            yield\n", "        with memo.at_rest():\n            yield\n",
+           "slow_copy"),
+    Mutant("a snapshot is copied without what the memo's own log has", "follower.py",
+           "        with self.office.lock, memo.at_rest():\n            yield\n", "        with self.office.lock:\n            yield\n",
+           "flipped_byte"),
     Mutant("a damaged snapshot is taken", "snapshots.py", "                if has_sums(place):\n",
            "                if True:\n", "flipped_byte"),
     Mutant("a fault of the office is remembered as an answer", "office.py", "    return status in (200, 409)\n",
