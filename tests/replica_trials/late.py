@@ -61,10 +61,11 @@ def unanswered(cluster: Cluster) -> None:
     """Etcd takes an entry, and its answer is lost; then it is no more reached either."""
     begun(cluster)
     door = through_door(cluster, 2, 0)
+    posted(cluster, 2, [record(5)])  # from now on it knows where the log ends
     door.is_silent = True
     reply = post(cluster, 2, [record(50)], "unanswered-1")
-    judge("unanswered: of an entry whose confirmation is lost the client is told `unknown`",
-          reply.body == b'{"error":"unknown"}', reply)
+    judge("unanswered: of an entry that etcd has, and whose confirmation is lost, the client is told `unknown`",
+          reply.body == b'{"error":"unknown"}' and has_key(cluster, "unanswered-1"), reply)
     door.is_silent = False
     first = posted(cluster, 0, [record(50)], "unanswered-1")
     again = posted(cluster, 2, [record(50)], "unanswered-1")

@@ -45,8 +45,8 @@ class Numbers:
 
 
 class Driven(NamedTuple):
-    """What clients got: acts a second, requests that were not 200, and the seconds of each that was; and how much of the
-    processors' time the machine's host took meanwhile, in parts of 100."""
+    """What clients got: acts a second, requests that were not 200, and the seconds of each that was; and the parts of 100
+    of the processors' time that the machine's host took meanwhile."""
 
     rate: float
     wrong: int
