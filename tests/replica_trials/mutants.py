@@ -47,7 +47,7 @@ MUTANTS = [
            "        if end.epoch != memo.epoch or end.is_sure and end.tail < self.position:\n", "        if False:\n", "older_log"),
     Mutant("the log is dropped up to the newest of the members' older snapshots", "log.py",
            "        least, first = min(int(value) for _, value in rows[1]), int(rows[2][0][1])",
-           "        least, first = max(int(value) for _, value in rows[1]), int(rows[2][0][1])", "full_etcd"),
+           "        least, first = max(int(value) for _, value in rows[1]), int(rows[2][0][1])", "kept"),
     Mutant("a member reports its newest snapshot, so the log begins after its older one", "follower.py",
            "            oldest = self.snapshots.positions()[-1]", "            oldest = self.snapshots.positions()[0]",
            "flipped_byte"),
@@ -84,8 +84,9 @@ MUTANTS = [
            '        with self.lock:\n            shutil.rmtree(self.place(position), ignore_errors=True)\n'
            '            new.rename(self.place(position))\n        sync(self.place(position))\n', "synced"),
     Mutant("a snapshot is copied while entries are done", "follower.py",
-           "        with self.office.lock, memo.at_rest():\n            yield\n", "        with memo.at_rest():\n            yield\n",
-           "slow_copy"),
+           "                self.snapshots.take(self.position, self.at_rest(memo))\n",
+           "                with memo.at_rest():\n                    pass\n                threading.Thread(target=self.snapshots.take,"
+           " args=(self.position, contextlib.nullcontext())).start()\n", "slow_copy"),
     Mutant("a snapshot is copied without what the memo's own log has", "follower.py",
            "        with self.office.lock, memo.at_rest():\n            yield\n", "        with self.office.lock:\n            yield\n",
            "flipped_byte"),
