@@ -75,6 +75,8 @@ class Cluster:
         self.tls: pathlib.Path | None = None
         self.units: dict[str, pathlib.Path] = {}
         """of `etcd` and `member`: the unit whose system calls it may use"""
+        self.environment: dict[str, str] = {}
+        """what the environment of all parts has besides, or otherwise"""
         self.processes: dict[str, subprocess.Popen[bytes]] = {}
         shutil.rmtree(folder, ignore_errors=True)
         folder.mkdir(parents=True)
@@ -128,7 +130,7 @@ class Cluster:
         with open(self.folder / f"{name}.log", "ab") as log:
             self.processes[name] = subprocess.Popen(
                 [*prefix, *words], stdin=subprocess.DEVNULL, stdout=log, stderr=subprocess.STDOUT,
-                start_new_session=True)
+                start_new_session=True, env={**os.environ, **self.environment})
         if "TRIAL_NICE" in os.environ:
             # beside the work of others: each process has a scheduling group of its own
             path = pathlib.Path(f"/proc/{self.processes[name].pid}/autogroup")

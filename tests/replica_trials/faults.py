@@ -145,14 +145,20 @@ def overwrite(file: pathlib.Path, what: bytes) -> None:
 
 
 def flipped_byte(cluster: Cluster) -> None:
-    """The newest snapshot of member 1 has a flipped byte: the one before is taken."""
+    """The newest snapshot of member 1 has a flipped byte: the one before is taken, and the log has what came after it."""
     begun(cluster)
     for number in range(1, 4):
         posted(cluster, 0, [record(10 + number)])
-        cluster.wait_for(1, cluster.position(0))
-        cluster.make_snapshot(1)
-    newest = cluster.snapshots(1)[-1]
+        for machine in range(3):
+            cluster.wait_for(machine, cluster.position(0))
+            cluster.make_snapshot(machine)
+    older, newest = cluster.snapshots(1)
+    log, began = Archivist(cluster), time.monotonic()
+    while log.number("first") <= int(older.name) and time.monotonic() - began < 60:
+        time.sleep(0.2)
     posted(cluster, 0, [record(50)])
+    judge("flipped byte: the log begins after the older snapshot", log.number("first") == int(older.name) + 1,
+          (log.number("first"), older.name, newest.name))
     with open(newest / "office.db", "r+b") as file:
         file.seek(5000)
         byte = file.read(1)[0]

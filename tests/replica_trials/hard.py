@@ -265,16 +265,17 @@ def units(cluster: Cluster) -> None:
 
 
 TRIALS = {
-    "no_quorum": no_quorum, "same_answers": same_answers, "full_disk": faults.full_disk, "full_etcd":
-    faults.full_etcd, "no_memory": faults.no_memory, "damaged_file": faults.damaged_file, "flipped_byte":
-    faults.flipped_byte, "away": away, "upgrade": upgrade, "wrong_file": wrong_file, "secured": secured,
-    "units": units, "isolated": age.isolated, "seen": age.seen, "slow_reading": age.slow_reading, "hanging": age.hanging, "replaced":
-    programs.replaced, "assumed_disk": programs.assumed_disk, "slow_snapshot": programs.slow_snapshot,
-    "undoable": programs.undoable, "refused": programs.refused, "moved": moving.moved, "one_name":
-    moving.one_name, "gone": moving.gone, "together": together.together, "synced": syncing.synced, "history":
-    history.history, "at_rest": history.at_rest, "old_key": history.old_key, "other_body": history.other_body,
-    "late": late.late, "half_done": going_back.half_done, "never_back": going_back.never_back, "older_log":
-    going_back.older_log, "in_question": going_back.in_question}
+    "no_quorum": no_quorum, "same_answers": same_answers, "full_disk": faults.full_disk, "full_etcd": faults.full_etcd,
+    "no_memory": faults.no_memory, "damaged_file": faults.damaged_file, "flipped_byte": faults.flipped_byte,
+    "away": away, "upgrade": upgrade, "wrong_file": wrong_file, "secured": secured, "units": units,
+    "isolated": age.isolated, "seen": age.seen, "slow_reading": age.slow_reading, "hanging": age.hanging,
+    "replaced": programs.replaced, "assumed_disk": programs.assumed_disk, "slow_snapshot": programs.slow_snapshot,
+    "slow_copy": programs.slow_copy, "undoable": programs.undoable, "refused": programs.refused, "moved": moving.moved,
+    "one_name": moving.one_name, "gone": moving.gone, "together": together.together, "synced": syncing.synced,
+    "history": history.history, "kept": history.kept, "at_rest": history.at_rest, "old_key": history.old_key,
+    "other_body": history.other_body, "late": late.late, "unanswered": late.unanswered,
+    "half_done": going_back.half_done, "never_back": going_back.never_back, "older_log": going_back.older_log,
+    "in_question": going_back.in_question}
 
 
 def run(folder: pathlib.Path, kills: int) -> None:

@@ -1,7 +1,9 @@
-"""What leaves the log: nobody gets it from etcd any more, not from its earlier revisions, not in an office at rest."""
+"""What leaves the log: nobody gets it from etcd any more, not from its earlier revisions, not in an office at rest. And
+what stays in it for a member that is away."""
 from __future__ import annotations
 
 import json
+import signal
 import time
 
 from replica_trials.checks import Archivist
@@ -11,6 +13,8 @@ from replica_trials.posting import begun, posted, record
 from replica_trials.verdict import same_rows
 
 SECRET = b"a content that a run destroys, and that nobody is to read afterwards"
+REPORTED_SECONDS = 2
+"""until a member has reported its snapshots"""
 
 
 def filed(cluster: Cluster) -> tuple[str, int]:
@@ -51,6 +55,27 @@ def history(cluster: Cluster) -> None:
     judge("history: after two snapshots of each member no etcd gives it at any revision",
           took < 120 and all("compacted" in it and key not in it for it in said), said)
     same_rows(cluster, "history")
+
+
+def kept(cluster: Cluster) -> None:
+    """A member is away while the others make snapshots: the log is kept for it, and it goes on from where it was."""
+    begun(cluster)
+    cluster.wait_for(2, cluster.position(0))
+    left = cluster.position(2)
+    cluster.kill("member2", how=signal.SIGTERM)
+    for number in range(3):
+        posted(cluster, 0, [record(900 + number)])
+        for machine in (0, 1):
+            cluster.wait_for(machine, cluster.position(0))
+            cluster.make_snapshot(machine)
+    time.sleep(REPORTED_SECONDS)
+    first = Archivist(cluster).number("first")
+    judge("kept: the log has what a member lacks that is away", first <= left + 1, (first, left))
+    cluster.start_member(2)
+    cluster.wait_for(2, cluster.position(0), 60)
+    judge("kept: once it is back it goes on from where it was", cluster.journal("member2").count("as it was") == 1,
+          cluster.journal("member2")[-300:])
+    same_rows(cluster, "kept")
 
 
 def old_key(cluster: Cluster) -> None:

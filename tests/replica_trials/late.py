@@ -1,5 +1,5 @@
-"""A member to which its etcd's answers come late, or never: it tells no age that is too small, and nobody is told that
-nothing is in the log while something may be."""
+"""Two trials of a member to which its etcd's answers come late, or never: it tells no age that is too small, and
+nobody is told that nothing is in the log while something may be."""
 from __future__ import annotations
 
 import random
@@ -9,7 +9,7 @@ import time
 
 from replica_trials.checks import stale
 from replica_trials.cluster import FAULTS, Cluster, ask
-from replica_trials.doors import Door, through_door
+from replica_trials.doors import through_door
 from replica_trials.judging import judge
 from replica_trials.posting import begun, post, posted, record
 from replica_trials.traffic import Read, Traffic
@@ -36,7 +36,7 @@ def read(cluster: Cluster, traffic: Traffic, reader: int, stopping: threading.Ev
 
 
 def late(cluster: Cluster) -> None:
-    """Etcd's answers reach member 2 two seconds late, while acts come at another member; then its questions alone pass."""
+    """Etcd's answers reach member 2 two seconds late, while acts come at another member."""
     begun(cluster)
     door, traffic, stopping = through_door(cluster, 2, LATE_SECONDS), Traffic(cluster, 1, 0, 0), threading.Event()
     readers = [threading.Thread(target=read, args=(cluster, traffic, it, stopping), daemon=True) for it in range(4)]
@@ -53,33 +53,38 @@ def late(cluster: Cluster) -> None:
     found = stale(traffic, LIMIT)
     judge(f"late: none of {len(traffic.reads):,} readings lacks what was answered before its age",
           len(traffic.reads) > 100 and not found, "\n    ".join([str(len(found)), *found[:5]]), always=True)
-    unanswered(cluster, door)
+    door.seconds = 0
+    same_rows(cluster, "late")
 
 
-def unanswered(cluster: Cluster, door: Door) -> None:
+def unanswered(cluster: Cluster) -> None:
     """Etcd takes an entry, and its answer is lost; then it is no more reached either."""
-    door.seconds, door.is_silent = 0, True
-    reply = post(cluster, 2, [record(50)], "late-1")
-    judge("late: of an entry whose confirmation is lost the client is told `unknown`",
-          reply.body == b'{"error":"unknown"}', reply)
+    begun(cluster)
+    door = through_door(cluster, 2, 0)
+    posted(cluster, 2, [record(5)])  # from now on it knows where the log ends
+    door.is_silent = True
+    reply = post(cluster, 2, [record(50)], "unanswered-1")
+    judge("unanswered: of an entry that etcd has, and whose confirmation is lost, the client is told `unknown`",
+          reply.body == b'{"error":"unknown"}' and has_key(cluster, "unanswered-1"), reply)
     door.is_silent = False
-    first = posted(cluster, 0, [record(50)], "late-1")
-    judge("late: and it is in the log, once", posted(cluster, 2, [record(50)], "late-1")[::2] == first[::2], first)
+    first = posted(cluster, 0, [record(50)], "unanswered-1")
+    again = posted(cluster, 2, [record(50)], "unanswered-1")
+    judge("unanswered: and it is in the log, once", again[::2] == first[::2], (first, again))
     door.is_silent = True
     told: list[bytes] = []
-    client = threading.Thread(target=lambda: told.append(post(cluster, 2, [record(51)], "late-2").body))
+    client = threading.Thread(target=lambda: told.append(post(cluster, 2, [record(51)], "unanswered-2").body))
     client.start()
     began = time.monotonic()
-    while not has_key(cluster, "late-2") and time.monotonic() - began < 30:
+    while not has_key(cluster, "unanswered-2") and time.monotonic() - began < 30:
         time.sleep(0.05)
     door.close()
     client.join(60)
-    judge("late: so is one of an entry whose confirmation is lost, and whose next try is refused",
+    judge("unanswered: so is one of an entry whose confirmation is lost, and whose next try is refused",
           told == [b'{"error":"unknown"}'], told)
     cluster.kill("member2", how=signal.SIGTERM)
     cluster.write_settings(2)
     cluster.start_member(2)
-    same_rows(cluster, "late")
+    same_rows(cluster, "unanswered")
 
 
 def has_key(cluster: Cluster, key: str) -> bool:

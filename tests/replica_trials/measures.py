@@ -12,7 +12,7 @@ import sys
 import threading
 import time
 import uuid
-from typing import Callable, NamedTuple
+from typing import Any, Callable, NamedTuple
 
 from replica_trials.acts import BEGIN
 from replica_trials.checks import Bare
@@ -45,11 +45,19 @@ class Numbers:
 
 
 class Driven(NamedTuple):
-    """What clients got: acts a second, requests that were not 200, and the seconds of each that was."""
+    """What clients got: acts a second, requests that were not 200, and the seconds of each that was; and the parts of 100
+    of the processors' time that the machine's host took meanwhile."""
 
     rate: float
     wrong: int
     seconds: list[float]
+    stolen: float
+
+
+def processor_time() -> tuple[int, int]:
+    """Of all processors since the start, in ticks: what the host took, and all."""
+    told = [int(it) for it in pathlib.Path("/proc/stat").read_text().splitlines()[0].split()[1:9]]
+    return told[7], sum(told)
 
 
 def drive(places: list[Place], clients: int, each: int, size: int, numbers: Numbers) -> Driven:
@@ -72,14 +80,15 @@ def drive(places: list[Place], clients: int, each: int, size: int, numbers: Numb
             except FAULTS:
                 wrong[place] += 1
 
-    began = time.time()
+    began, (stolen, ticks) = time.time(), processor_time()
     threads = [threading.Thread(target=client, args=(it,)) for it in range(clients)]
     for thread in threads:
         thread.start()
     for thread in threads:
         thread.join()
-    found = [it for mine in seconds for it in mine]
-    return Driven(each * len(found) / (time.time() - began), sum(wrong), found)
+    found, (stolen_then, ticks_then) = [it for mine in seconds for it in mine], processor_time()
+    return Driven(each * len(found) / (time.time() - began), sum(wrong), found,
+                  100 * (stolen_then - stolen) / max(1, ticks_then - ticks))
 
 
 def percentile(values: list[float], part: float) -> float:
@@ -91,7 +100,7 @@ def acts_a_second(folder: pathlib.Path) -> None:
     """The bare office, one member and three take turns, so that other work falls on all alike."""
     bare = Bare(folder / "bare.db", 26999)
     bare.post("acts", json.dumps(BEGIN).encode())
-    usual = {"snapshot_every": 1000, "snapshot_pause": 30, "compare_every": 100}
+    usual: dict[str, Any] = {"snapshot_every": 1000, "snapshot_pause": 30, "compare_every": 100}
     one, three = Cluster(folder / "one", 26000, 1, **usual), Cluster(folder / "three", 26100, 3, **usual)
     numbers, wrong = Numbers(), 0
     try:
@@ -101,8 +110,8 @@ def acts_a_second(folder: pathlib.Path) -> None:
         ways = {"bare `serve`": [bare.place], "one member": [one.place(0)],
                 "three members, clients at one": [three.place(0)],
                 "three members, clients at all": [three.place(it) for it in range(3)]}
-        print("| Clients, acts a request | Way | Acts a second: median | Worst | Milliseconds: p50 | p99 |\n"
-              "|---|---|---|---|---|---|")
+        print("| Clients, acts a request | Way | Acts a second: median | Worst | Milliseconds: p50 | p99 "
+              "| Taken by the host, parts of 100: median | Worst |\n|---|---|---|---|---|---|---|---|")
         for clients, each, size in CASES:
             found: dict[str, list[Driven]] = {way: [] for way in ways}
             for _ in range(ROUNDS):
@@ -112,7 +121,8 @@ def acts_a_second(folder: pathlib.Path) -> None:
             for way, rounds in found.items():
                 seconds = [it for round in rounds for it in round.seconds]
                 print(f"| {clients}, {each} | {way} | {median_and_worst([it.rate for it in rounds], min)} | "
-                      f"{percentile(seconds, 0.5):.0f} | {percentile(seconds, 0.99):.0f} |", flush=True)
+                      f"{percentile(seconds, 0.5):.1f} | {percentile(seconds, 0.99):.0f} | "
+                      f"{median_and_worst([it.stolen for it in rounds])} |", flush=True)
         judge("acts a second: each request of the measure was answered 200", wrong == 0, wrong)
         memory({"bare `serve`": bare.process.pid, **processes(three, 0)})
     finally:

@@ -130,6 +130,42 @@ def slow_snapshot(cluster: Cluster) -> None:
     same_rows(cluster, "slow snapshot")
 
 
+def slow_copies(cluster: Cluster) -> str:
+    """A PATH on which `cp` waits a second before each file."""
+    folder = cluster.folder / "slow"
+    folder.mkdir()
+    tool = folder / "cp"
+    tool.write_text('#!/bin/bash\n# cp --reflink=auto -- FILE .. FOLDER\nfor it in "${@:3:$#-3}"; do\n'
+                    '    sleep 1\n    /bin/cp "$1" -- "$it" "${@: -1}" || exit\ndone\n')
+    tool.chmod(0o755)
+    return f"{folder}:{os.environ['PATH']}"
+
+
+def slow_copy(cluster: Cluster) -> None:
+    """A snapshot's files are copied slowly while entries come: all of them are of one position."""
+    cluster.environment["PATH"] = slow_copies(cluster)
+    begun(cluster)
+    cluster.wait_for(1, cluster.position(0))
+    before = len(cluster.snapshots(1))
+    cluster.signal("member1", signal.SIGHUP)
+    for number in range(20):
+        posted(cluster, 0, [record(10 + number)])
+        time.sleep(0.2)
+    began = time.monotonic()
+    while len(cluster.snapshots(1)) == before and time.monotonic() - began < 60:
+        time.sleep(0.1)
+    at, end = int(cluster.snapshots(1)[-1].name), cluster.position(0)
+    judge("slow copy: a snapshot is made while entries come", len(cluster.snapshots(1)) > before and at + 5 < end,
+          f"at {at} of {end}", always=True)
+    cluster.kill("member1")
+    shutil.rmtree(cluster.home(1) / "work")
+    cluster.start_member(1)
+    cluster.wait_for(1, end)
+    chains = {str((cluster.state(it) or {}).get("chain")) for it in range(3)}
+    judge("slow copy: a member that goes on from it has the others' hash over its answers", len(chains) == 1, chains)
+    same_rows(cluster, "slow copy")
+
+
 def undoable(cluster: Cluster) -> None:
     """An entry for which no machine has the room: the state before it is read, and it is done once there is room."""
     blocks = cluster.folder / "blocks"

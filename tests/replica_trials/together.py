@@ -1,17 +1,20 @@
-"""Many clients at once: their entries go to the offices as joined lists, and each answer is that of its entry alone."""
+"""Many clients at once: their entries go to the offices as joined lists, and each answer is that of its entry alone. No
+reading meanwhile is older than it says."""
 from __future__ import annotations
 
 import random
 import time
 
 from replica_trials.acts import BEGIN
-from replica_trials.checks import Archivist
+from replica_trials.checks import Archivist, stale
 from replica_trials.cluster import Cluster
 from replica_trials.judging import judge
 from replica_trials.traffic import Traffic
 from replica_trials.verdict import whole
 
-CLIENTS, SECONDS = 16, 15
+CLIENTS, READERS, SECONDS = 16, 3, 15
+LIMIT = 30
+"""the usual value of `age_limit`"""
 
 
 def number(cluster: Cluster, name: str) -> int:
@@ -22,7 +25,7 @@ def number(cluster: Cluster, name: str) -> int:
 def together(cluster: Cluster) -> None:
     """Acts of all kinds, bodies that are no acts and resumptions from many clients; then a replay, entry by entry."""
     cluster.start_all()
-    source, log, traffic = random.Random(11), Archivist(cluster), Traffic(cluster, 11, CLIENTS)
+    source, log, traffic = random.Random(11), Archivist(cluster), Traffic(cluster, 11, CLIENTS, READERS)
     log.start()
     traffic.send_acts(source, BEGIN)
     traffic.start()
@@ -34,3 +37,6 @@ def together(cluster: Cluster) -> None:
           appended > transactions > 0 and joined > 0,
           f"{appended} requests in {transactions} transactions, {joined} joined at three offices", always=True)
     whole(cluster, traffic, log, "together", all_kinds=False)
+    found = stale(traffic, LIMIT)
+    judge(f"together: none of {len(traffic.reads):,} readings lacks what was answered before its age",
+          len(traffic.reads) > 50 and not found, "\n    ".join([str(len(found)), *found[:5]]))
