@@ -189,7 +189,7 @@ def beside(world: World) -> None:
         it.start()
     turns = 0
     while any(it.is_alive() for it in threads):
-        time.sleep(0.3)
+        time.sleep(0.1)
         turns += 1
         world.journal.rename(world.folder / f"journal-202602{turns:04d}")
         world.gate.send_signal(signal.SIGHUP)
