@@ -16,6 +16,8 @@ from office_gate.requests import Kept, Request, Span, around, differences, keys_
 
 MOST_TRIED = 400
 """for one answer that differs so many requests are tried otherwise"""
+MOST_PAIRED, MOST_PARTNERS = 24, 12
+"""if none of them alone helps, so many of these are tried with so many others"""
 STEPS = 64
 """of a run that was cut so many steps are tried"""
 MOST_ACTS, MOST_BYTES = 200, 800_000
@@ -185,16 +187,30 @@ class Replay:
     def mended(self, difference: Difference) -> Difference | None:
         """Finds a way on which the answers are right up to here and further. Returns what differs then."""
         self.widen(difference)
-        for at in self.open_before(difference):
-            for way in range(len(self.spans[at])):
-                if way == self.chosen[at]:
+        earlier: list[tuple[dict[int, int], Difference]] = []
+        for at, way in self.ways(difference):
+            found = self.otherwise({at: way})
+            if found is None or found.comes_after(difference):
+                self.keep()
+                return found
+            self.forget()
+            earlier.append(({at: way}, found))
+        # what fitted an answer before may have been wrong: taken back, it needs another one to be played otherwise too
+        for one, other in earlier[:MOST_PAIRED]:
+            for at, way in self.ways(other)[:MOST_PARTNERS]:
+                if at in one:
                     continue
-                found = self.otherwise({at: way})
+                found = self.otherwise(one | {at: way})
                 if found is None or found.comes_after(difference):
                     self.keep()
                     return found
                 self.forget()
         raise Refused(1, difference.text)
+
+    def ways(self, difference: Difference) -> list[tuple[int, int]]:
+        """Lists the other ways of the requests before a difference, the likeliest first."""
+        return [(at, way) for at in self.open_before(difference) for way in range(len(self.spans[at]))
+                if way != self.chosen[at]]
 
     def widen(self, difference: Difference) -> None:
         """Adds the files and classes of the records: what was given to these decides about the records too."""

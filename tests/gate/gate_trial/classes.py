@@ -35,9 +35,10 @@ def tried(folder: pathlib.Path) -> None:
 def refused(world: World, what: str, *acts: dict, place: int | None = None) -> None:
     count = sum(it["what"] == "asked" for it in world.lines())
     status, said = world.act("clerk", *acts)
-    same(what, (status, said["error"]), (403, "class"))
+    seen = said if isinstance(said, dict) else {}
+    same(what, (status, seen.get("error")), (403, "class"))
     if place is not None:
-        same(f"{what}: the place", said["place"], place)
+        same(f"{what}: the place", seen.get("place"), place)
     same(f"{what}: it was not sent", sum(it["what"] == "asked" for it in world.lines()), count)
     same(f"{what}: it is in the journal", [it["act"] for it in world.last("refused")["acts"]],
          [it["act"] for it in acts])

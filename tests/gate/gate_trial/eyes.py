@@ -39,7 +39,8 @@ def tried(folder: pathlib.Path) -> None:
 
 def eyes(world: World, what: str, name: str, rule: str, *acts: dict) -> None:
     status, said = world.act(name, *acts)
-    same(what, (status, said.get("error"), said.get("rule")), (403, "eyes", rule))
+    seen = said if isinstance(said, dict) else {}
+    same(what, (status, seen.get("error"), seen.get("rule")), (403, "eyes", rule))
     same(f"{what}: it is in the journal", world.last("refused")["name"], name)
 
 

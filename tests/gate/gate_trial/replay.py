@@ -20,7 +20,7 @@ sys.path.insert(0, str(JOURNAL.parent))
 from office_gate import chain, journal  # noqa: E402
 from office_gate.contents import Contents, noted  # noqa: E402
 
-SEEDS, REQUESTS = 8, 500
+SEEDS, REQUESTS = 4, 3000
 LEAST, MOST = 8, 40
 """between two requests without an answer are so many with one"""
 LAST = re.compile(r"without an answer: (\d+), of these done: (\d+), tried otherwise: (\d+), differences: 0\n")

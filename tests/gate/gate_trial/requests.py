@@ -148,7 +148,8 @@ def paths(world: World) -> None:
                  "http://localhost/acts", "*", "/replica", "/vault/" + "a" * 64):
         wanted(world, f"POST {path}", head("Content-Length: 2", first=f"POST {path} HTTP/1.1") + b"[]", 404, 405, 400)
     for first in ("POST http://localhost/acts HTTP/1.1", "POST https://localhost/acts HTTP/1.1", "POST acts HTTP/1.1",
-                  "POST localhost:443 HTTP/1.1", "POST /acts HTTP/2.0", "POST /acts HTTP/0.9", "POST /acts", "Post /acts HTTP/1.1", "POST /Acts HTTP/1.1",
+                  "POST localhost:443 HTTP/1.1", "POST /acts HTTP/2.0", "POST /acts HTTP/0.9", "POST /acts",
+                  "Post /acts HTTP/1.1", "POST /Acts HTTP/1.1",
                   "POST /acts\t HTTP/1.1", "POST /Run/resume HTTP/1.1", "POST /run/resume/ HTTP/1.1",
                   "POST /run/resume?x HTTP/1.1", "POST /run%2fresume HTTP/1.1", "GET /run/resume HTTP/1.1"):
         wanted(world, first, head("Content-Length: 2", first=first) + b"[]", 404, 405, 400)
