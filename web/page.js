@@ -46,6 +46,13 @@ export function sentence(key, parts) {
   });
 }
 
+/** A text as nodes: no line breaks a code in it, which only its hyphens would allow. */
+export function unbroken(text, code) {
+  if (!code?.includes("-")) return [text];
+  const inOne = () => made("span", { class: "day" }, code);
+  return text.split(code).flatMap((piece, at) => (at ? [inOne(), piece] : [piece])).filter((it) => it !== "");
+}
+
 /** Puts the words into all elements that name them by `data-text`. */
 export function translate(root) {
   for (const node of root.querySelectorAll("[data-text]")) node.replaceChildren(...whole(t(node.dataset.text)));

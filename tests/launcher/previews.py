@@ -14,7 +14,7 @@ from pages_run.shell import Done, Shell
 
 DUE = "clone/office due years 7 from-month-4 2017-06-30"
 INIT = "clone/office init archive.db"
-COMPILED = "office: compiled with checks, not proved, not for records that matter: ./office build proves it (45 minutes)\n"
+COMPILED = "office: compiled with checks, not proved, not for records that matter: ./office build proves it (half an hour)\n"
 WHOLE = "office: compiling a preview, with checks and without proof: about 4 minutes\n"
 SMALL = "office: compiling a preview of due and plan, with checks and without proof: about 1 minute\n"
 # commands of the table of README.md that its blocks do not show, and some that are refused

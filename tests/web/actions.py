@@ -191,7 +191,7 @@ def received(view: View) -> None:
 def taken(view: View) -> None:
     """A run takes the record while the page shows it as it was."""
     view.open(5)
-    acts = [
+    acts: list[dict] = [
         {"act": "hold-off", "hold": "H-1", "target": "class:LET"},
         {"act": "confirm", "record": 5, "action": "destroy", "by": WHO},
         {"act": "open-run", "by": WHO},

@@ -209,8 +209,10 @@ def placed(office: Office, it: Counted, proxy: Proxy) -> None:
     page.choose("#hold-place-kind", "aggregation")
     page.write(hold_place_target="NO/SUCH")
     page.wait(lambda: "Neither a number" in page.seen(named), "an unknown ref is not said")
+    before = len(sent(page))
     page.press("#hold-place button:not([type])")
-    same("refs: one that nothing has is not sent", page.text("#hold-place-target-wrong"), TEXTS["fields"]["numberWrong"])
+    wrong = page.text("#hold-place-target-wrong")
+    same("refs: one that nothing has is not sent", (len(sent(page)) - before, wrong), (0, TEXTS["fields"]["numberWrong"]))
     page.write(hold_place_target="CONTRACTS")
     page.press("#hold-place button:not([type])")
     targets = [act.get("target") for act in sent(page)[-1]]

@@ -63,7 +63,8 @@ class Browser:
         self.settled()
 
     def settled(self):
-        """Waits until the page asks nothing any more."""
+        """Waits until the page has begun what it was told last, however slow it is, and asks nothing any more."""
+        self.driver.execute_async_script("setTimeout(arguments[0], 50)")
         self.wait(lambda: not self.all(".waiting, [aria-busy]"), "the page goes on asking")
 
     def wait(self, holds, else_):
@@ -99,7 +100,6 @@ class Browser:
     def press(self, css):
         self.driver.execute_script("arguments[0].scrollIntoView({block: 'center'})", self.one(css))
         self.one(css).click()
-        time.sleep(0.05)
         self.settled()
 
     def hold_back(self):

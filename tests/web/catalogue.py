@@ -1,5 +1,6 @@
 """The catalogue: what the page says without one, and what it lists and offers with one."""
 import contextlib
+import functools
 import json
 import os
 import pathlib
@@ -256,7 +257,7 @@ def pictures(
 
     for part, words in VIEWS.items():
         address = f"{proxy.page}#catalogue{words}"
-        shots(it, f"catalogue-{part}{more}", address, lambda part=part: prepare(part), sizes, schemes)
+        shots(it, f"catalogue-{part}{more}", address, functools.partial(prepare, part), sizes, schemes)
 
 
 def readable(it: Browser, proxy: Proxy, name: str, address: str) -> None:

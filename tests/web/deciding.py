@@ -136,10 +136,11 @@ def by_aggregation(office: Office, it: Browser, proxy: Proxy, folder: pathlib.Pa
         "return Array.from(document.querySelectorAll('#due-table tbody tr'), (row) => row.matches('.group')"
         " ? row.querySelector('a').textContent : Number(row.cells[1].textContent))")
     heads = [row for row in rows if isinstance(row, str)]
-    there = {}
+    there: dict[int, list[int]] = {}
     for row in rows:
         if isinstance(row, str):
-            there[int(row.split(" ")[0])] = own = []
+            own: list[int] = []
+            there[int(row.split(" ")[0])] = own
         else:
             own.append(row)
     office_has = {number: at_once.told(office, number)["aggregation"] for number in plain}

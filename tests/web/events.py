@@ -12,7 +12,7 @@ WORDS = TEXTS["event"]
 FORM = "#record-event"
 # the schedules: these parts of each
 PARTS = ("trigger", "count", "offset", "action")
-SCHEDULES = {
+SCHEDULES: dict[str, tuple] = {
     "END-10": ("event", 10, "from-month-1", "destroy"),
     "END-2": ("event", 2, "none", "destroy"),
     "ADD-12": ("added", 12, "none", "destroy"),
@@ -29,8 +29,8 @@ window.fetch = async (...words) => { await there(...words); throw new TypeError(
 
 def fill(office: Office) -> None:
     """Five contracts, each with a schedule of its own."""
-    day = {"day": "2024-01-02"}
-    record = {"act": "add-record", **day, "originated": "2004-01-02", "aggregation": 1, "content": "YWJj"}
+    day: dict = {"day": "2024-01-02"}
+    record: dict = {"act": "add-record", **day, "originated": "2004-01-02", "aggregation": 1, "content": "YWJj"}
     there = [
         {"act": "add-schedule", **day, "code": code, "unit": "years", **dict(zip(PARTS, parts, strict=True))}
         for code, parts in SCHEDULES.items()

@@ -80,7 +80,8 @@ class Between(http.server.BaseHTTPRequestHandler):
 
 def size_of(picture: pathlib.Path) -> tuple[int, int]:
     """The width and height of a PNG."""
-    return struct.unpack(">II", picture.read_bytes()[16:24])
+    width, height = struct.unpack(">II", picture.read_bytes()[16:24])
+    return width, height
 
 
 def shot(address: str, picture: pathlib.Path, width: int, height: int) -> None:

@@ -79,8 +79,10 @@ def closing(it: Browser, proxy: Proxy, story: Story) -> None:
     it.open(f"{proxy.page}#plan?close=4")
     says("close: what the number is, and what is still open in it", it.seen("#plan-close-forecast"),
          "4 · CASE · Files of CASE", "6 · CASE/1 · The case of the mill")
+    before = story.posted()
     it.press("#plan-close button.grave")
-    same("close: without the tick nothing is sent", it.text("#plan-close-sure-wrong"), TEXTS["fields"]["sureWrong"])
+    same("close: without the tick nothing is sent", (story.posted() - before, it.text("#plan-close-sure-wrong")),
+         (0, TEXTS["fields"]["sureWrong"]))
     it.press("#plan-close-sure")
     it.press("#plan-close button.grave")
     says("close: a refusal says what has to be closed first", it.seen("#plan-close-outcome"), "6 · CASE/1 · The case of the mill")

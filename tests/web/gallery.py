@@ -74,6 +74,7 @@ VIEWS: dict[str, tuple[str, Prepare]] = {
     "overdue-event": ("overdue", pressed("#overdue-mark-all", "#overdue-record-event-choose")),
     "run-forecast": ("run", pressed()),
     "hold": (f"holds?code={town.HELD}", pressed()),
+    "lift": (f"holds?code={town.HELD}", pressed()),
     "hold-place": ("holds", written(hold_place_code="LAW-9", hold_place_target="1")),
     "close": ("plan?close=6", pressed()),
     "rule": ("plan", written(plan_rule_class="LET", plan_rule_schedule="D-2")),
@@ -91,7 +92,9 @@ VIEWS: dict[str, tuple[str, Prepare]] = {
     "file-folder": ("file", dropped),
 }
 # what scrolls into sight before a picture is made
-SHOWN = {"rule": "plan-rule", "close": "plan-close"}
+SHOWN = {"rule": "plan-rule", "close": "plan-close", "lift": "hold-lift"}
+# on how many lines each code of an answer is
+CODES = "return Array.from(document.querySelectorAll('.answers td .day'), (it) => it.getClientRects().length)"
 
 
 def looked(it: Browser, proxy: Proxy, folder: pathlib.Path, name: str, language: str) -> None:
@@ -152,6 +155,7 @@ def answers(it: Browser, proxy: Proxy, language: str, hold: str) -> None:
         for scheme in SCHEMES:
             it.light(scheme)
             looks.judge_view(it, f"answers, {language}, {scheme}, {width} pixels", width)
+            same(f"answers, {language}, {width} pixels: each code is on one line", set(it.driver.execute_script(CODES)), {1})
             shots.shot(it, f"answers-{language}", size, scheme)
             it.width(width, height)
         it.light("light")

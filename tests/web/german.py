@@ -1,7 +1,8 @@
 """The page in German: each view has the words of web/texts/de.json and no English one; acts are explained in it."""
 import json
 import pathlib
-from collections.abc import Callable, Iterator
+from collections.abc import Callable
+from contextlib import AbstractContextManager
 
 import catalogue
 import layout
@@ -65,6 +66,7 @@ def views(it: Browser, proxy: Proxy, addresses: dict[str, str]) -> None:
             it.open(proxy.page + address)
             there, most = it.driver.execute_script(looks.WIDE)
             judge(f"German: {name}: nothing is wider than {width} pixels", there <= most, str(there))
+            same(f"German: {name}: no text reaches over its box at {width}", it.driver.execute_script(looks.OVER), [])
         it.width(1280)
 
 
@@ -115,7 +117,7 @@ def listed(it: Browser, proxy: Proxy) -> None:
     catalogue.pictures(it, proxy, *GERMAN_PICTURES, "park")
 
 
-def tell(proxy: Proxy, folder: pathlib.Path, open_browser: Callable[..., Iterator[Browser]]) -> None:
+def tell(proxy: Proxy, folder: pathlib.Path, open_browser: Callable[..., AbstractContextManager[Browser]]) -> None:
     """All of it, while the first run of the city archive is closed, its hold in force, and a catalogue there."""
     with open_browser(folder, "de-DE") as it:
         it.know(proxy.page)

@@ -1,5 +1,6 @@
 """What passed and what failed."""
-PASSED, FAILED = [], []
+PASSED: list[str] = []
+FAILED: list[str] = []
 
 
 def judge(name, holds, told=""):

@@ -105,7 +105,7 @@ def view(it: Browser, proxy: Proxy, name: str, css: str) -> None:
         it.driver.refresh()
         return it.driver.execute_async_script(OPENED, css)
 
-    rounds = {"opened": [], "gone to": []}
+    rounds: dict[str, list] = {"opened": [], "gone to": []}
     for _ in range(ROUNDS):
         rounds["opened"].append(timed(it, opened, 0))
         it.go("#fault")

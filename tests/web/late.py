@@ -11,7 +11,7 @@ from story import TEXTS, Story, says
 
 TODAY = datetime.date.today()
 # the forms, in an order in which each act is accepted; the fields of each but its day
-FORMS = {
+FORMS: dict[str, dict[str, str]] = {
     "hold-place": {"code": "H-1", "reason": "A lawsuit", "by": "Legal office"},
     "hold-on": {"code": "H-1", "target": "C"},
     "hold-off": {"code": "H-1", "target": "C"},
@@ -79,7 +79,7 @@ def after(days: int) -> str:
 
 def fill(office: Office) -> None:
     """Two records that are due since a year, one to be reviewed, one that was sent, and one that is due later."""
-    day = {"day": after(-800)}
+    day: dict = {"day": after(-800)}
     schedule = {"act": "add-schedule", **day, "unit": "years", "offset": "none"}
     acts = [
         {**schedule, "code": "D1", "trigger": "added", "count": 1, "action": "destroy"},
@@ -89,7 +89,7 @@ def fill(office: Office) -> None:
         {"act": "add-class", **day, "code": "C", "title": "Letters", "schedule": "D1"},
         {"act": "add-aggregation", **day, "ref": "A", "title": "Letters", "class": "C"},
     ]
-    record = {"act": "add-record", **day, "originated": after(-800), "aggregation": 1, "content": "YWJj"}
+    record: dict = {"act": "add-record", **day, "originated": after(-800), "aggregation": 1, "content": "YWJj"}
     acts += [
         {**record, "ref": f"r{number}", "title": f"Letter {number}", "schedule": code}
         for number, code in enumerate((None, "D12", "REV-1", "SEND-1", None), 1)

@@ -102,6 +102,6 @@ def on_paper(browser: Browser, address: str, file: pathlib.Path, name: str, want
     short = {word: found.count(word) for word, count in wanted.items() if found.count(word) < count}
     judge(f"{name}: on paper each word is whole", not short, f"{short} of {wanted}\n{found}")
     for page in told.split("<page ")[1:]:
-        width = float(re.match(r'width="([\d.]+)"', page)[1])
+        width = float(re.findall(r'^width="([\d.]+)"', page)[0])
         most = max((float(it) for it in re.findall(r'xMax="([\d.]+)"', page)), default=0)
         judge(f"{name}: and nothing reaches over the edge", most <= width - 20, f"{most} of {width}")

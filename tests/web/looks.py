@@ -58,6 +58,28 @@ return Array.from(document.querySelectorAll("section:not([hidden]) :is(input, se
   .filter((node) => node.checkVisibility()).filter((node) => { const it = node.getBoundingClientRect(); return it.width && (it.height < 24 || it.width < 24); }).map((node) => node.outerHTML)
 """
 WIDE = "return [document.documentElement.scrollWidth, innerWidth]"
+# the texts that reach over the right edge of the box around them; what scrolls or is clipped has its own way to be seen
+OVER = """
+const boxOf = (node) => {
+  for (let it = node; it; it = it.parentElement) {
+    const style = getComputedStyle(it);
+    if (style.overflowX !== "visible" || style.clipPath !== "none") return null;
+    if (style.display !== "inline" && parseFloat(style.borderRightWidth) > 0) return it;
+  }
+  return null;
+};
+const over = [];
+const range = document.createRange();
+const walk = document.createTreeWalker(document.body, NodeFilter.SHOW_TEXT);
+while (walk.nextNode()) {
+  const { data, parentElement } = walk.currentNode;
+  if (!data.trim() || !parentElement.checkVisibility({checkVisibilityCSS: true}) || parentElement.closest("script, select")) continue;
+  const box = boxOf(parentElement);
+  range.selectNodeContents(walk.currentNode);
+  if (box && range.getBoundingClientRect().right > box.getBoundingClientRect().right + 1) over.push(data.trim());
+}
+return over;
+"""
 # the places of the view that is shown at which something is said later
 LIVE = "return Array.from(document.querySelectorAll('section:not([hidden]) [role=status], #clocks, #rights'))"
 # what is behind a summary is looked at too
@@ -84,6 +106,7 @@ def readable_view(browser, proxy, name, address):
         unfolded(browser, proxy.page + address)
         there, wanted = browser.driver.execute_script(WIDE)
         judge(f"{name}: nothing is wider than {width} pixels", there <= wanted, f"{there}")
+        same(f"{name}: no text reaches over its box at {width}", browser.driver.execute_script(OVER), [])
         same(f"{name}: nothing that is pressed is smaller than 24 pixels at {width}", browser.driver.execute_script(SMALL), [])
     browser.width(1280)
     same(f"{name}: each field, button, link and table has a name", browser.driver.execute_script(NAMELESS), [])
@@ -125,6 +148,7 @@ def judge_view(browser, name, width):
     judge(f"{name}: each field's edge has 3 at least, the least {edge:.1f}", edge >= 3)
     there, _ = browser.driver.execute_script(WIDE)
     judge(f"{name}: nothing is wider", there <= width, f"{there}")
+    same(f"{name}: no text reaches over its box", browser.driver.execute_script(OVER), [])
     same(f"{name}: nothing that is pressed is smaller than 24 pixels", browser.driver.execute_script(SMALL), [])
     same(f"{name}: each field, button, link and table has a name", browser.driver.execute_script(NAMELESS), [])
 

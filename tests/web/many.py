@@ -93,25 +93,35 @@ def tell(office, proxy, browser, folder):
     parts(office, browser)
 
 
-def parts(office, browser):
-    """More than one request takes is told before it is sent, and confirmed in parts."""
-    browser.press("#due-mark")
-    browser.write(due_confirm_by=WHO, due_confirm_day="2020-01-01")
-    if ROWS > TOO_MANY:
-        browser.press("#due-submit")
-        told = browser.seen("#due-panel-outcome")
-        judge("too much for one request is told, and nothing is sent", "one request takes 1048576" in told, told)
+def marked(browser):
+    """How many the button would confirm."""
+    return int(browser.text("#due-submit").split(" ")[1])
+
+
+def in_parts(browser, mark):
+    """Confirms all that a button marks, in as many requests as that takes, and counts it. What one request cannot take is told first."""
     confirmed = 0
-    while browser.text("#due-submit") != "Confirm 0":
-        keep = browser.all("#due-panel-outcome button")
-        if keep:
-            keep[0].click()
-        count = int(browser.text("#due-submit").split(" ")[1])
+    browser.press(mark)
+    while count := marked(browser):
+        if count > TOO_MANY:
+            browser.press("#due-submit")
+            told = browser.seen("#due-panel-outcome")
+            judge(f"{count}, too much for one request, is told, and nothing is sent", "one request takes 1048576" in told, told)
+            browser.one("#due-panel-outcome button").click()
+            count = marked(browser)
         began = time.time()
         browser.press("#due-submit")
         confirmed += count
         judge(f"{count} are confirmed in one request, after {time.time() - began:.1f} seconds", f"Confirmed: {count} of {count}." in browser.seen("#due-answer"), browser.seen("#due-answer")[:300])
-        browser.press("#due-mark")
-        if browser.text("#due-submit") != "Confirm 0":
-            browser.press("#due-submit") if int(browser.text("#due-submit").split(" ")[1]) > TOO_MANY else None
-    same("all are confirmed in the end", (confirmed, sum(row["confirmed"] for row in json.loads(office.ask("GET", "/due/2020-01-01")[2]))), (ROWS, ROWS))
+        browser.press(mark)
+    return confirmed
+
+
+def parts(office, browser):
+    """All are confirmed in parts: what is held is left out of them, and has a button of its own."""
+    unconfirmed = lambda: [row["record"] for row in json.loads(office.ask("GET", "/due/2020-01-01")[2]) if not row["confirmed"]]
+    browser.write(due_confirm_by=WHO, due_confirm_day="2020-01-01")
+    held = list(range(1, min(500, ROWS)))
+    free = in_parts(browser, "#due-mark")
+    same("all but what is held are confirmed", (free, sorted(unconfirmed())), (ROWS - len(held), held))
+    same("and then what is held, by a button of its own", (in_parts(browser, "#due-mark-held"), unconfirmed()), (len(held), []))

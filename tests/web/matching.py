@@ -78,8 +78,8 @@ def in_german(view: View) -> None:
     for name, header in (("deutsch.csv", labels), ("english.csv", english)):
         view.open()
         view.choose(name, "".join(";".join(row) + "\r\n" for row in (header, cells)).encode("windows-1252"))
-        there = {key: f"{'ABCDEFG'[at]}: {header[at]}" for at, key in enumerate(MATCHED)}
-        same(f"German: {name}: each label of the page is the name of a column", columns_of(view), there)
+        shown = {key: f"{'ABCDEFG'[at]}: {header[at]}" for at, key in enumerate(MATCHED)}
+        same(f"German: {name}: each label of the page is the name of a column", columns_of(view), shown)
         same(f"German: {name}: so the row is right", [row[1:7] for row in view.rows()], [cells[:6]])
     view.choose("ohne.csv", "Aktenzeichen;Kurztext;Entstanden;Akte\r\nG/2;Brief;2021-06-05;1\r\n".encode())
     there = [GERMAN["inColumn"].format(name=GERMAN["columns"][name], column=at)

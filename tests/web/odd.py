@@ -23,7 +23,7 @@ TEXT = "return document.title + document.body.textContent"
 
 
 def fill(office: Office) -> None:
-    day = {"day": "2018-01-02"}
+    day: dict = {"day": "2018-01-02"}
     acts = [
         {
             "act": "add-schedule",
@@ -49,7 +49,7 @@ def fill(office: Office) -> None:
         {"act": "add-aggregation", **day, "ref": f"A{REF}", "title": TITLE, "class": "EVT-PER"},
         {"act": "add-aggregation", **day, "ref": "EVT", "title": "Permits", "class": "EVT-PER"},
     ]
-    record = {"act": "add-record", **day, "originated": "2017-06-30", "aggregation": 1, "content": "YWJj"}
+    record: dict = {"act": "add-record", **day, "originated": "2017-06-30", "aggregation": 1, "content": "YWJj"}
     acts += [{**record, "ref": ref, "title": title} for ref, title in ((REF, TITLE), (LONG, LONG))]
     acts += [
         {**record, "ref": f"EVT/2018-01/{number}", "title": "Plain", "aggregation": 2, "schedule": "SCHEDULE-OF-16-L"}
@@ -102,9 +102,10 @@ def shown(story: Story) -> None:
 
 def dash(story: Story) -> None:
     """A hold whose code is `-`, on the record that the run left: in the list, its filter, and the next certificate."""
-    it, day = story.browser, {"day": DAY}
-    at_once = {"trigger": "added", "unit": "days", "count": 0, "offset": "none", "action": "destroy"}
-    free = {"ref": "free", "title": "Not held", "originated": DAY, "aggregation": 2, "content": "YWJj"}
+    it = story.browser
+    day: dict = {"day": DAY}
+    at_once: dict = {"trigger": "added", "unit": "days", "count": 0, "offset": "none", "action": "destroy"}
+    free: dict = {"ref": "free", "title": "Not held", "originated": DAY, "aggregation": 2, "content": "YWJj"}
     acts = [
         {"act": "lift-hold", **day, "hold": "Q-2020-17"},
         {"act": "place-hold", **day, "code": "-", "reason": "A lawsuit", "by": BY},

@@ -57,14 +57,14 @@ def fill(office: Office) -> None:
     ]
     acts += [{"act": "add-class", **first, "code": code, "title": code, "schedule": "D1"} for code in ("FIN", "LEG")]
     acts += [{"act": "add-aggregation", **first, "ref": code, "title": code, "class": code} for code in ("FIN", "LEG")]
-    for number, (day, code, schedule) in sorted(enumerate(RECORDS, 1), key=lambda it: it[1][0]):
+    for number, (added, code, schedule) in sorted(enumerate(RECORDS, 1), key=lambda it: it[1][0]):
         acts.append(
             {
                 "act": "add-record",
-                "day": day,
+                "day": added,
                 "ref": f"r{number:02}",
                 "title": f"Letter {number}",
-                "originated": day,
+                "originated": added,
                 "aggregation": 1 if code == "FIN" else 2,
                 "schedule": schedule,
                 "content": "YWJj",
@@ -165,13 +165,13 @@ def listed(view: View) -> None:
         ("held", "_none", lambda row: not row["held"]),
     ):
         it.choose(f"#overdue-{name}", value)
-        wanted = cells([row for row in rows if takes(row)])
-        same(f"overdue: filtered by {name} {value}", view.table(), wanted)
+        shown = cells([row for row in rows if takes(row)])
+        same(f"overdue: filtered by {name} {value}", view.table(), shown)
         says(
             "overdue: the caption tells how many",
             it.seen("#overdue-caption"),
             f"Records overdue on {DAY}: 5. Days after the due day: {COUNT}.",
-            f"Shown here: {len(wanted)}.",
+            f"Shown here: {len(shown)}.",
         )
         it.press("#overdue-all")
     it.choose("#overdue-class", "LEG")

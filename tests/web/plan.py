@@ -143,8 +143,8 @@ def changed(plan: Plan) -> None:
 
 def refused(plan: Plan) -> None:
     """What the office refuses is said in words, with what to do."""
-    day = {"day": "2022-05-02"}
-    schedule = {
+    day: dict = {"day": "2022-05-02"}
+    schedule: dict = {
         "act": "add-schedule",
         **day,
         "code": "KEEP",
@@ -154,7 +154,7 @@ def refused(plan: Plan) -> None:
         "offset": "quarter",
         "action": "review",
     }
-    aggregation = {"act": "add-aggregation", **day, "ref": "NEW", "title": "New", "parent": None, "class": None}
+    aggregation: dict = {"act": "add-aggregation", **day, "ref": "NEW", "title": "New", "parent": None, "class": None}
     for act, number in (
         (schedule, 4),
         ({**schedule, "code": "NEW", "day": "2018-01-01"}, 1),

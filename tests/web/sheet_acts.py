@@ -98,8 +98,8 @@ def catalogue_rows(view: Acts, name: str) -> list[dict]:
 
 
 def posted_records(office: Office) -> None:
-    acts = [{"act": "add-record", "day": "2020-01-01", "ref": f"BP/{n}/1", "title": f"Letter {n}", "originated": "2015-01-01",
-             "aggregation": number, "class": None, "schedule": None, "content": ""} for n, number in enumerate(range(1, 31))]
+    acts: list[dict] = [{"act": "add-record", "day": "2020-01-01", "ref": f"BP/{n}/1", "title": f"Letter {n}", "originated": "2015-01-01",
+                         "aggregation": number, "class": None, "schedule": None, "content": ""} for n, number in enumerate(range(1, 31))]
     day = json.loads(office.ask("POST", "/acts", json.dumps(acts).encode())[2])
     assert day[0].get("refused") == 1, day
     today = [{**it, "day": TODAY[0]} for it in acts]

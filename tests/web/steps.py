@@ -10,6 +10,7 @@ import hashlib
 import json
 import pathlib
 from collections.abc import Callable
+from typing import Any
 
 import catalogue
 from browser import Browser
@@ -52,7 +53,7 @@ class Town:
             answers += json.loads(body)
         return answers
 
-    def told(self, path: str) -> dict | list:
+    def told(self, path: str) -> Any:
         return json.loads(self.office.ask("GET", path)[2])
 
     def open(self, view: str) -> None:
@@ -65,10 +66,10 @@ class Town:
 
     def fill(self) -> None:
         """A plan, records of each class, the invoices of a year, and the maps that a run has sent."""
-        first = {"day": BEGUN}
+        first: dict = {"day": BEGUN}
         acts = []
         for code, (trigger, count, action) in RULES.items():
-            rule = {"trigger": trigger, "unit": "years", "count": count, "offset": "none", "action": action}
+            rule: dict = {"trigger": trigger, "unit": "years", "count": count, "offset": "none", "action": action}
             acts.append({"act": "add-schedule", **first, "code": f"{code}-1", **rule})
             acts.append({"act": "add-class", **first, "code": code, "title": code.title(), "schedule": f"{code}-1"})
             acts.append({"act": "add-aggregation", **first, "ref": code, "title": f"All {code.lower()}", "class": code})

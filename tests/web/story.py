@@ -99,7 +99,7 @@ class Story:
     def wrong_input(self):
         it, before = self.browser, self.asked_for()
         fields, texts = TEXTS["fields"], lambda css: it.text(css)
-        for view, form, wrong, word in (
+        for view, form, wrong, (field, text) in (
             ("#due", "due-form", {"due_day": "2023-02-29"}, ("due-day", "dayWrong")),
             ("#record", "record-form", {"record_number": "01"}, ("record-number", "numberWrong")),
             ("#certificate", "certificate-form", {"certificate_number": "4294967296"}, ("certificate-number", "numberWrong")),
@@ -113,7 +113,6 @@ class Story:
             it.go(view)
             it.write(**wrong)
             it.press(f"#{form} button:not([type])")
-            field, text = word
             same(f"{form}: a wrong value is told at its field", texts(f"#{field}-wrong"), fields[text])
             judge(f"{form}: and the field is told as invalid", it.one(f"#{field}").get_attribute("aria-invalid") == "true")
             first = it.driver.execute_script("return document.activeElement.getAttribute('aria-invalid')")

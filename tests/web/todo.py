@@ -47,6 +47,8 @@ def wanted(story: Story) -> dict[str, int]:
 
 
 def without(it: Browser, proxy: Proxy, story: Story) -> None:
+    # what is held and not confirmed waits for nobody
+    town.send(story.office, [{"act": "hold-on", "day": after(0), "hold": town.HELD, "target": "record:5"}])
     it.open(proxy.page)
     same("todo: without a catalogue it has what the office lists", counts(it), wanted(story))
     says("todo: and says what it lacks", it.seen("#todo-none"), WORDS["noCatalogue"])

@@ -5,6 +5,9 @@ import json
 import pathlib
 import re
 import subprocess
+from collections.abc import Sequence
+
+from selenium.webdriver.common.keys import Keys
 
 import town
 from browser import Browser, browser
@@ -20,6 +23,8 @@ BROKEN = """
 return Array.from(document.querySelectorAll("section:not([hidden]) :is(.day, .entries a)"))
   .filter((node) => node.checkVisibility() && node.getClientRects().length > 1).map((node) => node.textContent)
 """
+# at each width the lines end elsewhere
+WIDTHS = {"1280 pixels": [1280], "400 pixels and below": range(400, 330, -5)}
 LONG = "BLDG-INQUIRY/2021/0241"
 LINES_OF_REF = """
 const rows = Array.from(document.querySelectorAll("#due-table tbody tr"));
@@ -46,9 +51,19 @@ window.Date = class extends Real {
 """
 
 
+def broken(it: Browser, widths: Sequence[int]) -> list[str]:
+    """The days and codes that a line breaks at one of these widths; the page is as wide as usual then."""
+    found = []
+    for width in widths:
+        it.width(width)
+        found += it.driver.execute_script(BROKEN)
+    it.width(1280)
+    return found
+
+
 def printed(it: Browser, folder: pathlib.Path) -> str:
     it.paper(folder / "trap.pdf")
-    words = ["pdftotext", "-layout", folder / "trap.pdf", "-"]
+    words = ["pdftotext", "-layout", str(folder / "trap.pdf"), "-"]
     return subprocess.run(words, check=True, stdout=subprocess.PIPE).stdout.decode()
 
 
@@ -135,12 +150,10 @@ def days(story: Story) -> None:
     it.press("#due-form button:not([type])")
     says("days: of one with two readings both are said", it.text("#due-day-wrong"), "2022-06-05", "2022-05-06")
     judge("days: a field has a calendar", bool(it.all("#due-form .pick")))
-    for width in (1280, 400):
-        it.width(width)
+    for words, widths in WIDTHS.items():
         for view in ("due", "overdue", "catalogue?part=holds", "catalogue?part=runs", "record?number=1", "certificate?number=1"):
             it.open(f"{story.proxy.page}#{view}")
-            same(f"{view}: no day is broken at {width} pixels", it.driver.execute_script(BROKEN), [])
-    it.width(1280)
+            same(f"{view}: no day is broken at {words}", broken(it, widths), [])
 
 
 def receipt(story: Story) -> None:
@@ -253,13 +266,15 @@ def clock(story: Story) -> None:
 
 
 def cards(story: Story) -> None:
-    """What is said of a form is in sight."""
+    """What is said of a form is in sight, also in a low window for somebody who presses Enter at the form's first code."""
     it = story.browser
+    it.width(1280, 500)
     it.open(f"{story.proxy.page}#holds")
-    it.write(hold_place_code=town.HELD, hold_place_reason="Again", hold_place_by=WHO)
-    it.press("#hold-place button:not([type])")
+    it.write(hold_place_reason="Again", hold_place_by=WHO, hold_place_code=f"{town.HELD}{Keys.ENTER}")
+    it.wait(lambda: "Refusal" in it.seen("#hold-place-outcome"), "no refusal comes")
     says("holds: a code that is there is refused", it.seen("#hold-place-outcome"), "Refusal 4")
     judge("holds: which is seen", it.driver.execute_script(SEEN, it.one("#hold-place-outcome > :first-child")))
+    it.width(1280)
     it.write(hold_place_code="NEW-1")
     same("holds: and taken away once somebody writes", it.seen("#hold-place-outcome"), "")
     says("holds: a target covers what is filed later", it.seen("#hold-on"), "also what is filed there later")

@@ -4,6 +4,7 @@ from __future__ import annotations
 import pathlib
 from collections.abc import Callable
 from concurrent.futures import ThreadPoolExecutor
+from typing import Any
 
 import catalogue
 import town
@@ -35,7 +36,7 @@ class Clerks:
             for done in [pool.submit(work, it, name) for it, name in self.both]:
                 done.result()
 
-    def told(self, path: str) -> dict | list:
+    def told(self, path: str) -> Any:
         return self.story.told(path)
 
 

@@ -24,8 +24,7 @@ from story import TEXTS, Story, says
 
 WORDS, FILES = TEXTS["vault"], TEXTS["files"]
 COMMAND = TOP / "service/vault/office-vault"
-MOST = 262_144
-MIB = 1 << 20
+MOST, MIB = 262_144, 1 << 20
 
 
 class Vault:
@@ -245,6 +244,7 @@ def on_its_way(view: View, vault: Vault) -> None:
     """Presses the button while the vault stands still: the first file is on its way, and does not arrive."""
     it = view.browser
     upload = WORDS["going"]["upload"].split(":")[0]
+    assert vault.process
     vault.process.send_signal(signal.SIGSTOP)
     it.one("#file-submit").click()
     it.wait(lambda: any(upload in one.text for one in it.all("#file-table .going .hint")), "no file is on its way")
@@ -256,6 +256,7 @@ def stopped(view: View, vault: Vault) -> None:
     on_its_way(view, vault)
     it.one("#file-stop").click()
     it.wait(lambda: not it.one("#file-progress").is_displayed(), "it does not stop")
+    assert vault.process
     vault.process.send_signal(signal.SIGCONT)
     it.settled()
     same("stopped: nothing is filed", (view.counts(), set(view.answers())), ({"added": "0", "left": "2"}, {TEXTS["filing"]["left"]}))

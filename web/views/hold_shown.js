@@ -1,7 +1,7 @@
 // The hold that the address names: its reason, who placed it, its targets, what it covers; and what lifting it would do.
 import { getNewest } from "../ask.js";
 import { details, part, refresh } from "../catalogue.js";
-import { byId, factsOf, grouped, link, made, paragraph, plural, tableOf } from "../page.js";
+import { byId, factsOf, grouped, link, made, paragraph, plural, tableOf, unbroken } from "../page.js";
 import { earliest, liftForecast } from "../plain/forecast.js";
 import { isCode, isDay, today } from "../plain/forms.js";
 import { visible } from "../plain/marks.js";
@@ -87,7 +87,7 @@ async function make() {
   if (answer.status !== 200 || !Array.isArray(rows)) return null;
   const { covered, due, confirmed } = liftForecast(rows, code, day);
   const words = { hold: code, day, due: grouped(due.length) };
-  const nodes = [...(await allWords(code)), paragraph(plural("forecast.lift.covers", covered.length, words))];
+  const nodes = [...(await allWords(code)), made("p", {}, ...unbroken(plural("forecast.lift.covers", covered.length, words), code))];
   if (confirmed.length) {
     const words = plural("forecast.lift.confirmed", confirmed.length);
     nodes.push(paragraph(`${words} ${await sinceWords(confirmed)}`.trim(), "grave"), listOf(confirmed));

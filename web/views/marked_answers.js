@@ -1,5 +1,5 @@
 // What came of many acts: counts, one list of answers, and a button that goes on with what has no answer.
-import { factsOf, grouped, link, made, paragraph, plural, save, say, tableOf, told } from "../page.js";
+import { factsOf, grouped, link, made, paragraph, plural, save, say, tableOf, told, unbroken } from "../page.js";
 import { csvOf } from "../plain/csv.js";
 import { countsOf, stepsOf } from "../plain/many.js";
 import { visible } from "../plain/marks.js";
@@ -30,7 +30,7 @@ function linkOf({ kind, number }) {
 
 function cellsOf(deed, step) {
   const { item, act, fate } = step;
-  const answer = made("span", { class: `fate ${LOOKS[fate.kind]}` }, fateText(deed, step));
+  const answer = made("span", { class: `fate ${LOOKS[fate.kind]}` }, ...unbroken(fateText(deed, step), act.hold ?? act.code ?? act.schedule));
   if (!item) return [made("code", {}, act.code), "", "", answer];
   return [linkOf(item), visible(item.ref), visible(item.title ?? ""), answer];
 }

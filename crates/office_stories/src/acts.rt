@@ -15,7 +15,7 @@ pub(crate) fn is_act(words: &str) -> bool {
 }
 
 /// The acts that words ask for, which are between ` & `.
-fn acts_of(alloc: Global, words: &str) -> Result<Vec<Act>, Fail> {
+pub(crate) fn acts_of(alloc: Global, words: &str) -> Result<Vec<Act>, Fail> {
     let values = joined(alloc, words, ",")?;
     let list = format!(in alloc; "[{values}]")?;
     match read_acts(alloc, list.as_bytes()) {
@@ -62,7 +62,7 @@ fn done<S: Alter>(
 }
 
 /// An answer in JSON.
-fn answer_text(alloc: Global, answer: &Answer) -> Result<String, Fail> {
+pub(crate) fn answer_text(alloc: Global, answer: &Answer) -> Result<String, Fail> {
     let value = answer_value(alloc, answer)?;
     Ok(text_of(alloc, &value)?)
 }

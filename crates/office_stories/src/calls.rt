@@ -11,7 +11,8 @@ use office_proof::Entry;
 use office_records::{RecordNo, Text};
 use office_store::Store;
 use office_wire::{
-    answer_value, export_due, export_entries, export_overdue, import_records, read_act, serve_one,
+    RequestList, Routes, SentAnswer, Service, Serving, answer_value, export_due, export_entries,
+    export_overdue, import_records, read_act, serve_one, serve_session,
 };
 use serde_json::Value;
 use sqlite::{Connection, MemStore};
@@ -226,6 +227,51 @@ fn served(alloc: Global, desk: &mut Desk<MemStore>) -> Result<(), Fail> {
     Err(Fail::new("answered otherwise"))
 }
 
+/// Serves the requests of a list, and awaits one more than there are.
+fn session_served(
+    alloc: Global,
+    desk: &mut Desk<MemStore>,
+    list: &mut RequestList<'_>,
+) -> Result<Service, Fail> {
+    let routes = Routes::new(alloc)?;
+    let serving = Serving {
+        alloc,
+        routes: &routes,
+    };
+    Ok(serve_session(serving, list, 4, desk))
+}
+
+/// Tells whether an answer of this status that begins so went out on a connection.
+fn is_sent(it: &SentAnswer, status: u16, beginning: &str) -> bool {
+    it.status == Ok(status) && it.bytes.as_slice().starts_with(beginning.as_bytes())
+}
+
+/// Checks that three connections have their answers, one of them none, and that the fourth failed.
+fn report_session(service: Service, sent: &[SentAnswer]) -> Result<(), Fail> {
+    let are_sent = match sent {
+        [first, second, third] => {
+            is_sent(first, 404, "HTTP/1.1 404 ")
+                && is_sent(second, 0, "")
+                && is_sent(third, 200, "HTTP/1.1 200 ")
+        }
+        _ => false,
+    };
+    let has_ended = service.connections == 4 && service.has_failed && !service.is_poisoned;
+    must(are_sent && has_ended, "a session", "served otherwise")
+}
+
+/// `office_wire`: a session of requests in memory.
+fn session(alloc: Global, desk: &mut Desk<MemStore>) -> Result<(), Fail> {
+    let requests: [&[u8]; 3] = [
+        "GET /records/1 HTTP/1.1\r\nHost: h\r\n\r\n".as_bytes(),
+        "".as_bytes(),
+        "GET /due/2024-01-02 HTTP/1.1\r\nHost: h\r\n\r\n".as_bytes(),
+    ];
+    let mut list = RequestList::new(alloc, &requests)?;
+    let service = session_served(alloc, desk, &mut list)?;
+    report_session(service, list.into_answers().as_slice())
+}
+
 /// `office_wire`: rows are imported, of which there are none.
 fn imported(alloc: Global, desk: &mut Desk<MemStore>, day: Day) -> Result<(), Fail> {
     let mut out = Vec::new(alloc);
@@ -315,6 +361,7 @@ fn readings(desk: &mut Desk<MemStore>, day: Day, days: ConfirmDays) -> Result<()
 /// The calls of the wire.
 fn wire(alloc: Global, desk: &mut Desk<MemStore>, day: Day, days: ConfirmDays) -> Result<(), Fail> {
     served(alloc, desk)?;
+    session(alloc, desk)?;
     imported(alloc, desk, day)?;
     due_exported(alloc, desk, day)?;
     overdue_exported(alloc, desk, day, days)?;

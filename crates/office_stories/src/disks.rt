@@ -1,5 +1,6 @@
 //! The two files of an office in memory, whose disks stop after so many calls.
 use crate::failures::failure;
+use office_life::Fuses;
 use sqlite::Files;
 use sqlite_disk::{Disk, Fuse, Memory};
 use std::alloc::Global;
@@ -14,6 +15,9 @@ pub(crate) struct Image {
 
 /// The two files on disks that stop.
 pub(crate) type Disks = Files<Fuse<Memory>>;
+
+/// The two files on disks that stop in each of several stints.
+pub(crate) type LastingDisks = Files<Fuses<Memory>>;
 
 /// After how many calls each disk stops.
 #[derive(Clone, Copy)]
@@ -34,9 +38,13 @@ impl Stop {
         }
     }
 
-    /// A stop of the log alone, or of the database file alone.
+    /// A stop of the log alone, of the database file alone, or of both.
     pub(crate) fn of(disk: &str, calls: u64) -> Result<Stop, Fail> {
         match disk {
+            "both" => Ok(Stop {
+                log: calls,
+                db: calls,
+            }),
             "log" => Ok(Stop {
                 log: calls,
                 db: NEVER,
@@ -50,12 +58,37 @@ impl Stop {
     }
 }
 
-/// A disk of these bytes that stops after so many calls.
-fn disk(alloc: Global, bytes: &[u8], calls: u64) -> Result<Fuse<Memory>, Fail> {
+/// Makes a file of these bytes in memory.
+fn memory(alloc: Global, bytes: &[u8]) -> Result<Memory, Fail> {
     let mut memory = Memory::new(alloc);
     memory.write_at(0, bytes)?;
     memory.sync()?;
-    Ok(Fuse::new(memory, calls))
+    Ok(memory)
+}
+
+/// A disk of these bytes that stops after so many calls.
+fn disk(alloc: Global, bytes: &[u8], calls: u64) -> Result<Fuse<Memory>, Fail> {
+    Ok(Fuse::new(memory(alloc, bytes)?, calls))
+}
+
+/// Makes the fuses of all stints but the first.
+fn later_fuses(alloc: Global, calls: u64, stints: usize) -> Result<Vec<u64>, Fail> {
+    let mut later = Vec::new(alloc);
+    for _ in 1..stints {
+        later.push(calls)?;
+    }
+    Ok(later)
+}
+
+/// Makes a disk of these bytes that stops in each of so many stints after so many calls.
+fn lasting_disk(
+    alloc: Global,
+    bytes: &[u8],
+    calls: u64,
+    stints: usize,
+) -> Result<Fuses<Memory>, Fail> {
+    let later = later_fuses(alloc, calls, stints)?;
+    Ok(Fuses::new(memory(alloc, bytes)?, calls, later))
 }
 
 impl Image {
@@ -65,6 +98,16 @@ impl Image {
             log: Vec::new(alloc),
             db: Vec::new(alloc),
         }
+    }
+
+    /// Tells whether there are no files yet.
+    pub(crate) fn is_none(&self) -> bool {
+        self.log.is_empty() && self.db.is_empty()
+    }
+
+    /// Tells whether both files have the same bytes.
+    pub(crate) fn is_same(&self, other: &Image) -> bool {
+        self.log.as_slice() == other.log.as_slice() && self.db.as_slice() == other.db.as_slice()
     }
 
     /// The same bytes again.
@@ -99,6 +142,25 @@ impl Image {
     pub(crate) fn files(&self, alloc: Global, stop: Stop) -> Result<Disks, Fail> {
         let log = disk(alloc, self.log.as_slice(), stop.log)?;
         let db = disk(alloc, self.db.as_slice(), stop.db)?;
+        Ok(Files { log, db })
+    }
+
+    /// Reads the bytes of files after stints.
+    pub(crate) fn left(alloc: Global, files: &LastingDisks) -> Result<Image, Fail> {
+        let log = Vec::from_slice(alloc, files.log.inner().bytes())?;
+        let db = Vec::from_slice(alloc, files.db.inner().bytes())?;
+        Ok(Image { log, db })
+    }
+
+    /// Makes files of these bytes on disks that stop in each of so many stints.
+    pub(crate) fn lasting(
+        &self,
+        alloc: Global,
+        stop: Stop,
+        stints: usize,
+    ) -> Result<LastingDisks, Fail> {
+        let log = lasting_disk(alloc, self.log.as_slice(), stop.log, stints)?;
+        let db = lasting_disk(alloc, self.db.as_slice(), stop.db, stints)?;
         Ok(Files { log, db })
     }
 }

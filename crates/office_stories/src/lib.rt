@@ -25,6 +25,7 @@
 //! | `## closed` | none: the database is closed, and its log goes back into its file |
 //! | `## asked while a disk stops` | acts with their answers, or what is read, and how often a disk stops it at least |
 //! | `## resumed while a disk stops` | `by 11 steps = closed 1, at least 25`; `steps again` where each resumption is stopped once more |
+//! | `## lived while disks stop` | stints between ` ; `, each acts with their answers, `resume` or `nothing = none`; how often each disk stops them at least, and after how many stints the database does not promise what is left, by why |
 //! | `## opened while a disk stops` | `at least 8`: a file of version 1 is opened, and how often a disk stops it at least; each stop leaves all of version 1, or all of version 2 |
 //!
 //! What else than its thirteen tables a file has, each row of another table and each text of an
@@ -87,7 +88,13 @@ mod hostile_stories;
 #[cfg(test)]
 mod intakes;
 #[cfg(test)]
+mod life_rows;
+#[cfg(test)]
+mod life_stories;
+#[cfg(test)]
 mod limit_stories;
+#[cfg(test)]
+mod lives;
 #[cfg(test)]
 mod lost_stories;
 #[cfg(test)]
@@ -102,6 +109,8 @@ mod old_office;
 mod other_stories;
 #[cfg(test)]
 mod others;
+#[cfg(test)]
+mod outcomes;
 #[cfg(test)]
 mod overdue_stories;
 #[cfg(test)]

@@ -3,6 +3,7 @@ use crate::disks::Image;
 use crate::errands::{Errand, close, do_all};
 use crate::failures::failure;
 use crate::intakes::report_taken_over;
+use crate::lives::report_lived;
 use crate::migrations::report_opened;
 use crate::office::{BASE, BUSY};
 use crate::old_office::{OLD_BASE, OLD_TABLES};
@@ -27,6 +28,7 @@ fn report_apart(alloc: Global, image: &mut Image, place: &str, row: &str) -> Res
         "taken over by memory" => report_taken_over(alloc, image, row),
         "asked while a disk stops" => report_asked(alloc, image, row),
         "resumed while a disk stops" => report_resumed(alloc, image, row),
+        "lived while disks stop" => report_lived(alloc, image, row),
         "opened while a disk stops" => report_opened(alloc, image, row),
         "the bytes of a file" => put_row(alloc, image, row),
         _ => Err(failure("no such place", place)),

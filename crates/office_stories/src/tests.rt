@@ -8,6 +8,7 @@ use crate::exits::report_exits;
 use crate::filing_stories::FILING;
 use crate::hold_stories::HOLDS;
 use crate::hostile_stories::{ELSEWHERE, HOSTILE};
+use crate::life_stories::{LIVES_OF_ACTS, LIVES_OF_MIGRATIONS, LIVES_OF_RUNS};
 use crate::limit_stories::LIMITS;
 use crate::lost_stories::{LOST, UNHEARD};
 use crate::old_file_stories::OLD_FILE;
@@ -149,4 +150,19 @@ fn acts_beside_other_tables_are_stopped(rt: HostRuntime) -> Result<(), Fail> {
 #[test]
 fn the_opening_of_version_1_is_stopped(rt: HostRuntime) -> Result<(), Fail> {
     report(rt.alloc(), STOPPED_OPENING)
+}
+
+#[test]
+fn lives_of_acts_are_stopped(rt: HostRuntime) -> Result<(), Fail> {
+    report(rt.alloc(), LIVES_OF_ACTS)
+}
+
+#[test]
+fn lives_of_runs_are_stopped(rt: HostRuntime) -> Result<(), Fail> {
+    report(rt.alloc(), LIVES_OF_RUNS)
+}
+
+#[test]
+fn lives_of_migrations_are_stopped(rt: HostRuntime) -> Result<(), Fail> {
+    report(rt.alloc(), LIVES_OF_MIGRATIONS)
 }

@@ -30,6 +30,11 @@ class Aggregations:
             number = self.parents[number]
         return found
 
+    def is_known(self, number: int | None) -> bool:
+        """Whether all that an aggregation lies in is known."""
+        chain = self.chain(number)
+        return bool(chain) and self.parents[chain[-1]] is None
+
     def class_of(self, number: int | None) -> str | None:
         """Returns the class in effect, or None if nobody knows it."""
         for it in self.chain(number):

@@ -13,6 +13,8 @@ NONE = "0" * 64
 """what the first line of all has in the place of the one before"""
 BLOCK = 1 << 16
 HEAD = re.compile(r"\b(\d{1,15}):([0-9a-f]{64})\b")
+NO_LINE = 10**15
+"""the first number of a file in which no line is yet: it comes after all others"""
 
 
 def digest(data: bytes) -> str:
@@ -84,7 +86,7 @@ def first_number(path: Path) -> int:
         entry = entry_of(line)
         if entry is not None:
             return int(entry["line"])
-    return 0
+    return NO_LINE
 
 
 def files_of(place: Path) -> list[Path]:
@@ -94,17 +96,43 @@ def files_of(place: Path) -> list[Path]:
     return sorted(whole, key=lambda it: (first_number(it), it.name))
 
 
-def last_line(path: Path) -> tuple[bytes, bytes]:
-    """Returns the last whole line of a file and what follows it, both empty if there is none."""
+def tails(path: Path) -> Iterator[list[bytes]]:
+    """Gives what lies between the LFs of a file: from ever further before its end, at last all of it."""
     size = path.stat().st_size
     with path.open("rb") as file:
         data = b""
-        while len(data) < size:
+        while True:
             data = os.pread(file.fileno(), min(BLOCK, size - len(data)), max(0, size - len(data) - BLOCK)) + data
-            if data.count(b"\n") >= 2:
-                break
-    whole, _, rest = data.rpartition(b"\n")
-    return whole.rpartition(b"\n")[2], rest
+            pieces = data.split(b"\n")
+            yield pieces if len(data) >= size else pieces[1:]
+            if len(data) >= size:
+                return
+
+
+def last_line(path: Path, goes_on: bool) -> tuple[Head | None, list[bytes]]:
+    """Returns the last line of a file, and what stops left after it. In one that goes on a line may lack its LF."""
+    rest: list[bytes] = []
+    for pieces in tails(path):
+        for at in range(len(pieces) - 1, -1, -1):
+            is_last = at == len(pieces) - 1
+            if entry := entry_of(Line(path, 0, pieces[at], goes_on or not is_last)):
+                rest = pieces[at + 1:]
+                return Head(int(entry["line"]), digest(pieces[at])), rest if rest and rest[-1] else rest[:-1]
+        rest = pieces
+    return None, rest if rest and rest[-1] else rest[:-1]
+
+
+def end_of(files: list[Path], goes_on: Path) -> tuple[Head, bytes | None]:
+    """Returns the last line of a journal, and the bytes after it that are no line."""
+    after: list[bytes] = []
+    for path in reversed(files):
+        head, rest = last_line(path, path == goes_on)
+        after = rest + after
+        if head:
+            break
+    else:
+        head = START
+    return head, b"\n".join(after) if after else None
 
 
 @dataclass
@@ -157,6 +185,8 @@ def compare(line: Line, entry: Json, found: Checked) -> None:
         found.first = number
         if number == 1 and entry["before"] != NONE:
             raise Refused(1, f"{line.where()}: this is line 1, but names a line before it")
+        if found.rest is not None:
+            between(line, entry, found)
         return
     if number > before.line + 1:
         raise Refused(1, f"{line.where()}: after line {before.line} comes line {number}: lines were cut out")
@@ -165,11 +195,16 @@ def compare(line: Line, entry: Json, found: Checked) -> None:
     if entry["before"] != before.sha256:
         raise Refused(1, f"{line.where()}: line {before.line} was changed: its SHA-256 is not the one that line "
                          f"{number} names")
+    between(line, entry, found)
+
+
+def between(line: Line, entry: Json, found: Checked) -> None:
+    """Compares what lies before a line with what the line says of it."""
     wanted = None if found.rest is None else text_of(torn(found.rest))
     said = text_of(entry["torn"]) if "torn" in entry else None
     if said != wanted:
-        raise Refused(1, f"{line.where()}: between line {before.line} and line {number} are other bytes than this "
-                         "line names: they were added, changed or cut")
+        raise Refused(1, f"{line.where()}: between line {found.head.line} and line {entry['line']} are other bytes "
+                         "than this line names: they were added, changed or cut")
 
 
 def told(text: str) -> dict[int, str]:

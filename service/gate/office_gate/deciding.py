@@ -1,11 +1,12 @@
 """Whether a name may do the acts of a list: kind by kind, its own name, the day, a reason, and the classes."""
 import datetime
 import re
-from dataclasses import dataclass
+from dataclasses import dataclass, field
 
 from office_gate.access import Access, Person
 from office_gate.body import Json
 from office_gate.errors import Answered
+from office_gate.office import ends_of
 from office_gate.scopes import Scopes, has_thing
 from office_gate.words import ACTS, LATER_DAY, RESUME, SIGNED
 
@@ -20,6 +21,8 @@ class Asked:
     origin: str
     reason: str
     lines: dict[str, str]
+    # up to then an act waits for those before it, and for the office
+    ends: float = field(default_factory=ends_of)
 
 
 def today(access: Access) -> str:

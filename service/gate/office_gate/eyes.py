@@ -6,8 +6,8 @@ from office_gate.body import Json
 from office_gate.catalogue import Aggregations
 from office_gate.deciding import DAY
 from office_gate.errors import Answered
-from office_gate.facts import Facts
-from office_gate.office import Office
+from office_gate.facts import Facts, made_with
+from office_gate.office import Answer, Office
 from office_gate.words import DECISIONS
 
 OPENS = "confirmer-does-not-open"
@@ -39,22 +39,38 @@ class Eyes:
     async def acts(self, person: Person, acts: list[Json]) -> None:
         """Looks at a list as a whole, and at what the name did before."""
         found = [it["act"] for it in acts]
-        decided = [place for place, kind in enumerate(found) if kind in DECISIONS]
-        looks = self.rules.confirmer_does_not_open or self.rules.changer_days is not None
         if "run-step" in found:
             self.carry_out(person)
             if self.rules.opener_does_not_carry_out and "open-run" in found:
                 raise refused(CARRIES, place=found.index("run-step"))
-        if looks and decided and ("open-run" in found or self.is_opener(person)):
-            raise refused(OPENS if found[decided[0]] == "confirm" else CHANGES, place=decided[0])
-        if looks and "open-run" in found:
+        decided = [place for place, act in enumerate(acts) if self.decides(act)]
+        if decided and ("open-run" in found or self.is_opener(person)):
+            raise refused(self.rule_of(found[decided[0]]), place=decided[0])
+        if self.looks():
             for place, act in enumerate(acts):
                 if act["act"] == "open-run":
                     await self.opened(person, str(act.get("day")), place)
 
+    def looks(self) -> bool:
+        """Whether a rule looks at the records that a run may take."""
+        return self.rules.confirmer_does_not_open or self.rules.changer_days is not None
+
+    def decides(self, act: Json) -> bool:
+        """Whether an act is none for whoever opens a run, or has one open."""
+        if act["act"] in DECISIONS:
+            return self.looks()
+        # what is made with a schedule or a class of its own has it from whoever made it
+        return self.rules.changer_days is not None and made_with(act, 0) is not None
+
+    def rule_of(self, kind: str) -> str:
+        """Names the rule that an act breaks, which is switched on."""
+        is_of_confirmers = kind in ("confirm", "event") or self.rules.changer_days is None
+        return OPENS if is_of_confirmers and self.rules.confirmer_does_not_open else CHANGES
+
     async def opened(self, person: Person, day: str, place: int) -> None:
         """Looks at each record that a run of that day may take."""
         touched = self.facts.touched(person.name, self.rules.changer_days) if self.rules.changer_days else set()
+        confirmed = self.facts.confirmed(person.name)
         if not DAY.fullmatch(day):
             # the office refuses it
             return
@@ -65,24 +81,36 @@ class Eyes:
         if answer.status != 200:
             raise Answered(503, "office")
         for row in json.loads(answer.body):
-            if row["confirmed"]:
-                await self.taken(person, row, touched, place)
+            # what does not count now may count again before the run comes to the record
+            may_count = row["confirmed"] or f"record:{row['record']}" in confirmed
+            if self.rules.confirmer_does_not_open and may_count and await self.is_confirmer(person, row["record"]):
+                raise refused(OPENS, place=place, record=row["record"])
+            await self.changed(person, row, touched, place)
 
-    async def taken(self, person: Person, row: Json, touched: set[str], place: int) -> None:
+    async def changed(self, person: Person, row: Json, touched: set[str], place: int) -> None:
+        """Refuses a record to which the name gave its schedule or class, whoever confirms it."""
         number = row["record"]
-        if self.rules.confirmer_does_not_open and await self.is_confirmer(person, number):
-            raise refused(OPENS, place=place, record=number)
         if f"record:{number}" in touched or f"class:{row['class']}" in touched:
             raise refused(CHANGES, place=place, record=number)
         if any(it.startswith("aggregation:") for it in touched):
-            record = json.loads((await self.office.get(person.name, f"/records/{number}")).body)
-            if any(f"aggregation:{it}" in touched for it in self.aggregations.chain(record["aggregation"])):
+            answer = await self.record(person, number)
+            if answer.status != 200:
+                raise Answered(503, "office")
+            # a file that nobody knows may lie in one that the name changed
+            file = answer.json()["aggregation"]
+            if not self.aggregations.is_known(file) or any(f"aggregation:{it}" in touched
+                                                           for it in self.aggregations.chain(file)):
                 raise refused(CHANGES, place=place, record=number)
+
+    async def record(self, person: Person, number: int) -> Answer:
+        return await self.office.get(person.name, f"/records/{number}", {"Office-Read": "newest"})
 
     async def is_confirmer(self, person: Person, number: int) -> bool:
         names = self.facts.confirmers(number)
         if names:
             return person.name in names
-        answer = await self.office.get(person.name, f"/records/{number}")
-        confirmed = json.loads(answer.body).get("confirmed") if answer.status == 200 else None
+        answer = await self.record(person, number)
+        if answer.status != 200:
+            raise Answered(503, "office")
+        confirmed = answer.json()["confirmed"]
         return bool(confirmed) and confirmed["by"] == person.signs

@@ -2,6 +2,7 @@
 
 All of it is derived. The file is made anew from the journal if it is lost, or was made from another one.
 """
+import re
 import sqlite3
 import time
 from pathlib import Path
@@ -10,6 +11,7 @@ from office_gate.body import Json, number_in
 from office_gate.catalogue import Aggregations
 from office_gate.chain import Head
 from office_gate.errors import Refused, say
+from office_gate.scopes import text
 from office_gate.words import GIVES, OF_RECORD
 
 TABLES = """
@@ -23,12 +25,19 @@ CREATE TABLE IF NOT EXISTS runs (line INTEGER, place INTEGER, name TEXT, number 
 """
 MARGIN = 120.0
 """so many seconds before its moment the journal is read on from a catalogue: what is done twice makes no difference"""
+AGGREGATION = re.compile("aggregation:([1-9][0-9]{0,9})")
 NONE_OPEN = "18"
 """the refusal that says that no run is open"""
 
 
 def is_none_open(answer: object) -> bool:
     return isinstance(answer, dict) and str(answer.get("refused")) == NONE_OPEN
+
+
+def answer_at(answers: object, place: int) -> Json | None:
+    """Returns the answer to an act, or None if there is none."""
+    found = answers[place] if isinstance(answers, list) and place < len(answers) else None
+    return found if isinstance(found, dict) else None
 
 
 def thing_of(act: Json) -> str | None:
@@ -109,7 +118,7 @@ class Facts:
                 self.closed()
             return
         for place, act in enumerate(asked.get("acts") or []):
-            answer = answers[place] if isinstance(answers, list) and place < len(answers) else None
+            answer = answer_at(answers, place)
             if answer is None and answered.get("known", True):
                 continue
             if is_none_open(answer):
@@ -127,8 +136,8 @@ class Facts:
                             (line, at, name, kind if answer else f"{kind}?", thing))
         if kind == "add-aggregation" and number is not None:
             self.note(where, kind, int(number), act)
-        elif kind == "reclassify" and str(act.get("target")).startswith("aggregation:"):
-            self.note(where, kind if answer else "unknown", int(act["target"].split(":")[1]), act)
+        elif kind == "reclassify" and (found := AGGREGATION.fullmatch(str(act.get("target")))):
+            self.note(where, kind if answer else "unknown", int(found[1]), act)
         elif kind == "open-run":
             if answer:
                 self.closed()
@@ -140,7 +149,7 @@ class Facts:
     def note(self, where: tuple[int, int, float], kind: str, number: int, act: Json) -> None:
         line, place, at = where
         self.db.execute("INSERT OR REPLACE INTO aggregations VALUES (?, ?, ?, ?, ?, ?, ?)",
-                        (line, place, at, kind, number, number_in(act, "parent"), act.get("class")))
+                        (line, place, at, kind, number, number_in(act, "parent"), text(act.get("class"))))
 
     def closed(self) -> None:
         self.db.execute("DELETE FROM runs")
@@ -173,6 +182,11 @@ class Facts:
             if kind == "confirm":
                 break
         return found
+
+    def confirmed(self, name: str) -> set[str]:
+        """Lists what a name confirmed, or may have."""
+        return {thing for (thing,) in self.db.execute("SELECT DISTINCT thing FROM touches WHERE name = ? AND kind IN "
+                                                      "('confirm', 'confirm?')", (name,))}
 
     def touched(self, name: str, days: int) -> set[str]:
         """Lists what a name gave a schedule or a class within so many days."""

@@ -2,7 +2,10 @@
 import asyncio
 import contextlib
 import sqlite3
+import sys
 import time
+import traceback
+from collections.abc import AsyncIterator
 from dataclasses import dataclass, field
 
 from office_gate import body, deciding, settings
@@ -62,6 +65,10 @@ class Gate:
     # one list of acts is judged and done at a time
     acting: Turns = field(default_factory=lambda: Turns(1))
     is_behind: bool = False
+    # the line of the last answer, which may be on its way to the disk
+    last: Written | None = None
+    # the settings of which the journal says that they count
+    told: str = ""
 
     # ---- settings
 
@@ -75,11 +82,24 @@ class Gate:
             is_new, self.access = access.digest != self.access.digest, access
             if is_new:
                 say(f"new settings, SHA-256 {access.digest}")
-                # a full disk does not keep a rotation from taking effect
-                with contextlib.suppress(Answered):
-                    await self.journal.append({"what": "settings", "sha256": access.digest})
+        # a full disk does not keep a rotation from taking effect
+        with contextlib.suppress(Answered):
+            await self.tell()
         with contextlib.suppress(Answered):
             await self.journal.in_thread(self.journal.reopen)
+
+    async def tell(self) -> None:
+        """Writes which settings count, if the journal does not say so. Nothing is decided by others."""
+        before, now = self.told, self.access.digest
+        if before == now:
+            return
+        self.told = now
+        try:
+            await self.journal.append({"what": "settings", "sha256": now})
+        except Answered:
+            if self.told == now:
+                self.told = before
+            raise
 
     def aggregations(self) -> Aggregations:
         found, is_new = self.catalogue.read()
@@ -92,7 +112,7 @@ class Gate:
     async def acts(self, asked: Asked, data: bytes) -> tuple[Answer, Head]:
         """Does the acts of a list for a name. Answered says that it may not: then nothing was done."""
         entry = self.head(asked, "POST /acts") | {"body": {"bytes": len(data), "sha256": digest(data)}}
-        try:
+        async with self.refusing(entry):
             acts = body.acts_of(data)
             plain, parts = noted(acts)
             entry["acts"] = plain
@@ -103,23 +123,24 @@ class Gate:
             for place, act in enumerate(acts):
                 deciding.reason(self.access, asked, act["act"], place)
             sent = body.bytes_of(acts)
-            async with self.acting.turn(asked.person.name):
+            async with self.acting.turn(asked.person.name, asked.ends):
                 await self.judge(asked, acts)
                 entry["acts"] = deciding.signed(plain, acts)
                 if parts:
                     entry["contents"] = await self.journal.in_thread(self.journal.contents.add, parts)
                 answer, written = await self.send(asked, entry, "/acts", sent)
-        except Answered as refused:
-            await self.refuse(entry, refused)
-            raise
         return await self.durable(answer, written)
 
     async def judge(self, asked: Asked, acts: list[Json]) -> None:
         """Looks at classes and at the rules of four eyes, while nobody else acts."""
-        self.recover()
+        await self.recover()
         known = self.aggregations()
-        await deciding.classes(asked.person, acts, Scopes(known, self.asking(asked)))
-        await Eyes(self.access, self.facts, known, self.office).acts(asked.person, acts)
+        try:
+            async with asyncio.timeout_at(asked.ends):
+                await deciding.classes(asked.person, acts, Scopes(known, self.asking(asked)))
+                await Eyes(self.access, self.facts, known, self.office).acts(asked.person, acts)
+        except TimeoutError:
+            raise Answered(503, "office") from None
 
     def asking(self, asked: Asked) -> Asking:
         async def record(number: int) -> Json | None:
@@ -132,15 +153,12 @@ class Gate:
     async def resume(self, asked: Asked) -> tuple[Answer, Head]:
         """Carries out the run that is open."""
         entry = self.head(asked, "POST /run/resume")
-        try:
+        async with self.refusing(entry):
             deciding.resume(self.access, asked)
-            async with self.acting.turn(asked.person.name):
-                self.recover()
+            async with self.acting.turn(asked.person.name, asked.ends):
+                await self.recover()
                 Eyes(self.access, self.facts, self.aggregations(), self.office).carry_out(asked.person)
                 answer, written = await self.send(asked, entry, "/run/resume", None)
-        except Answered as refused:
-            await self.refuse(entry, refused)
-            raise
         return await self.durable(answer, written)
 
     async def send(self, asked: Asked, entry: Json, path: str, data: bytes | None) -> tuple[Answer, Written]:
@@ -148,7 +166,7 @@ class Gate:
         began = time.monotonic()
         head = await self.journal.append({"what": "asked", **entry})
         try:
-            answer = await self.office.post(asked.person.name, path, data, asked.lines)
+            answer = await self.office.post(asked.person.name, path, data, asked.lines, asked.ends)
         except Answered as closed:
             answer = Answer(closed.status, body.text_of(closed.body()).encode())
         except Exception as error:
@@ -156,7 +174,7 @@ class Gate:
             answer = UNKNOWN
         said = answered(head, answer)
         # the next act is decided while the disk takes this line
-        written = asyncio.ensure_future(self.journal.append(said))
+        self.last = written = asyncio.ensure_future(self.journal.append(said))
         await asyncio.sleep(0)
         self.learn(entry, said, head)
         self.metrics.note("act", answer.status, time.monotonic() - began)
@@ -176,22 +194,38 @@ class Gate:
             self.facts.fold(entry, said, head.line, time.time())
             self.facts.commit(self.journal.head)
             self.facts.extend(self.catalogue.found)
-        except sqlite3.Error as error:
-            say(f"what was done is not noted: {error}")
+        except Exception as error:
+            say(f"what was done is not noted: {error!r}")
             self.facts.undo()
             self.is_behind = True
 
-    def recover(self) -> None:
+    async def recover(self) -> None:
         """Takes from the journal what was not noted, or refuses to act."""
         if not self.is_behind:
             return
+        if self.last:
+            await asyncio.wait([self.last])
         try:
             self.facts.forget()
             catch_up(self.journal.path, self.facts, self.journal.written)
+            self.facts.extend(self.catalogue.found)
         except (sqlite3.Error, OSError) as error:
             self.facts.undo()
             raise Answered(503, "journal") from error
         self.is_behind = False
+
+    @contextlib.asynccontextmanager
+    async def refusing(self, entry: Json) -> AsyncIterator[None]:
+        """Writes the line of an act that does not get to the office, with all that is known of it by then."""
+        try:
+            yield
+        except Answered as refused:
+            await self.refuse(entry, refused)
+            raise
+        except Exception as error:
+            traceback.print_exc(file=sys.stderr)
+            await self.refuse(entry, Answered(500, "gate"))
+            raise Answered(500, "gate") from error
 
     async def refuse(self, entry: Json, refused: Answered) -> None:
         self.metrics.note("refused", refused.status, 0.0)

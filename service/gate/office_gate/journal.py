@@ -13,7 +13,7 @@ from pathlib import Path
 from typing import Any
 
 from office_gate import chain
-from office_gate.chain import Head, Line, entry_of
+from office_gate.chain import Head
 from office_gate.contents import Contents
 from office_gate.errors import Answered, Refused, say
 
@@ -35,11 +35,13 @@ class Journal:
         self.path, self.contents = path, contents
         self.head = chain.START
         self.written = chain.START
-        # what goes before the next line: the end of a line that lacks it
+        # what goes before what is written next: the LF of a line that lacks it
         self.lead = b""
         # bytes that are no line, of which the next one tells
         self.rest: bytes | None = None
         self.is_well = True
+        # whether the end of the file is known, which the next line follows
+        self.is_found = False
         self.file = -1
         self.waiting: list[Waiting] = []
         self.worker: asyncio.Task[None] | None = None
@@ -56,22 +58,20 @@ class Journal:
             fcntl.flock(self.file, fcntl.LOCK_EX | fcntl.LOCK_NB)
         except BlockingIOError:
             raise Refused(3, f"another process writes {self.path}") from None
-        for path in reversed(chain.files_of(self.path)):
-            if self.follow(path):
-                break
-        self.written = self.head
+        self.follow()
 
-    def follow(self, path: Path) -> bool:
-        """Finds the last line of a file, and what a stop left after it. Returns whether there is a line."""
-        whole, rest = chain.last_line(path)
-        if rest and (entry := entry_of(Line(path, 0, rest, True))):
-            # a line that lacks its end alone
-            self.head, self.rest = Head(int(entry["line"]), chain.digest(rest)), None
-        else:
-            self.head = Line(path, 0, whole, True).head() if whole else chain.START
-            self.rest = rest or None
-        self.lead = b"\n" if rest and path == self.path else b""
-        return bool(whole or rest)
+    def follow(self) -> None:
+        """Finds the last line, in an older file if this one has none, and what stops left after it."""
+        self.is_found = False
+        here = os.fstat(self.file)
+        files = chain.files_of(self.path)
+        goes_on = next((it for it in files if os.path.samestat(it.stat(), here)), self.path)
+        head, self.rest = chain.end_of(files, goes_on)
+        # older files may have been put away since
+        self.head = self.written = max(head, self.written, key=lambda it: it.line)
+        is_cut = here.st_size and os.pread(self.file, 1, here.st_size - 1) != b"\n"
+        self.lead = b"\n" if is_cut else b""
+        self.is_found = True
 
     def reopen(self) -> None:
         """Goes on in the file that now has the name, as after a rotation."""
@@ -81,7 +81,9 @@ class Journal:
             return
         try:
             fcntl.flock(new, fcntl.LOCK_EX | fcntl.LOCK_NB)
-            self.write(self.lead, True)
+            if self.rest is None:
+                # what is no line needs no LF at its end: the next line tells of it in the new file too
+                self.write(b"", True)
         except OSError:
             os.close(new)
             raise
@@ -101,10 +103,12 @@ class Journal:
         Answered 503 `journal` says that the disk did not take it: then nothing may be done.
         """
         entry = {"at": now(), **entry}
+        if not self.is_found:
+            self.find()
         if self.rest is not None:
             entry["torn"] = chain.torn(self.rest)
         data, head = chain.linked(entry, self.head)
-        data, self.lead, self.rest, self.head = self.lead + data, b"", None, head
+        self.rest, self.head = None, head
         if not is_durable and self.worker is None and self.using.acquire(blocking=False):
             # nothing waits for the disk, and the system takes a line at once: this needs no thread
             self.put(data, head)
@@ -115,6 +119,14 @@ class Journal:
             self.worker = asyncio.create_task(self.work())
         await done
         return head
+
+    def find(self) -> None:
+        """Looks for the end of the file, without which no line can follow."""
+        try:
+            self.alone(self.follow)
+        except OSError as error:
+            say(f"{self.path} is not read: {error}")
+            raise Answered(503, "journal") from error
 
     def put(self, data: bytes, head: Head) -> None:
         """Gives a line to the system, for whoever has the file."""
@@ -148,7 +160,7 @@ class Journal:
                 await asyncio.get_running_loop().run_in_executor(self.thread, self.alone, self.write, data,
                                                                  is_durable)
             except Exception as error:
-                self.fail(batch, error)
+                self.alone(self.fail, batch, error)
                 continue
             self.took(batch[-1][1])
             for _, _, _, done in batch:
@@ -157,9 +169,9 @@ class Journal:
         self.worker = None
 
     def write(self, data: bytes, is_durable: bool) -> None:
-        view = memoryview(data)
+        view = memoryview(self.lead + data)
         while view:
-            view = view[os.write(self.file, view):]
+            view, self.lead = view[os.write(self.file, view):], b""
         if is_durable:
             os.fdatasync(self.file)
 
@@ -172,11 +184,10 @@ class Journal:
                 done.set_exception(Answered(503, "journal"))
         self.waiting = []
         # What of it is in the file stays: whole lines count, since they are linked; of the others the next line tells.
-        self.follow(self.path)
-        if self.head.line < self.written.line:
-            # the file is new, and nothing is in it yet
-            self.head = self.written
-        self.written = self.head
+        try:
+            self.follow()
+        except OSError as broken:
+            say(f"{self.path} is not read: {broken}")
 
     async def in_thread(self, what: Callable[..., Any], *words: object) -> Any:
         """Does something between two writings."""

@@ -10,7 +10,7 @@ from office_gate.errors import Answered, Refused
 from office_gate.turns import Turns
 
 WAIT_SECONDS = 120.0
-"""so long a request waits for an office that does not answer, if nothing of it was sent"""
+"""so long a request waits for its turn and for an office that is away, if nothing of it was sent"""
 ANSWER_SECONDS = 300.0
 TRY_SECONDS = 0.1
 AT_ONCE = 2
@@ -33,6 +33,11 @@ class Answer:
         return json.loads(self.body)
 
 
+def ends_of() -> float:
+    """Returns up to when a request that comes now waits for the office."""
+    return time.monotonic() + WAIT_SECONDS
+
+
 UNKNOWN = Answer(502, b'{"error":"unknown"}', is_known=False)
 BACK_LINES = ("Allow", "Office-Position", "Office-Age")
 
@@ -49,18 +54,16 @@ class Office:
 
     async def get(self, name: str, path: str, lines: dict[str, str] | None = None) -> Answer:
         """Reads something. A reading is asked again if its answer was lost."""
-        return await self.asked(name, "GET", path, None, lines or {})
+        return await self.asked(name, asking.request("GET", self.address, path, None, lines or {}), ends_of())
 
-    async def post(self, name: str, path: str, body: bytes | None, lines: dict[str, str]) -> Answer:
-        """Sends what acts, once."""
-        return await self.asked(name, "POST", path, body, lines)
+    async def post(self, name: str, path: str, body: bytes | None, lines: dict[str, str], ends: float) -> Answer:
+        """Sends what acts, once, up to that moment at the latest."""
+        return await self.asked(name, asking.request("POST", self.address, path, body, lines), ends)
 
-    async def asked(self, name: str, method: str, path: str, body: bytes | None, lines: dict[str, str]) -> Answer:
-        ends = time.monotonic() + WAIT_SECONDS
-        sent = asking.request(method, self.address, path, body, lines)
+    async def asked(self, name: str, sent: asking.Request, ends: float) -> Answer:
         while True:
-            async with self.turns.turn(name):
-                answer = await self.once(sent, method == "GET")
+            async with self.turns.turn(name, ends):
+                answer = await self.once(sent, sent.head.method == b"GET")
             if answer is not None and not is_closed(answer):
                 return answer
             if time.monotonic() >= ends:

@@ -1,6 +1,5 @@
 """An office in a file of its own, in which the acts of a journal are done once more."""
 import http.client
-import json
 import os
 import shutil
 import socket
@@ -26,8 +25,10 @@ class Player:
     def start(self) -> None:
         with socket.create_server(("127.0.0.1", 0)) as it:
             self.port = it.getsockname()[1]
+        # of a replay that the machine's end cuts off nothing is kept, so it needs half the syncs
         self.process = subprocess.Popen([self.program, "serve", str(self.file), str(self.port), "1000000"],
-                                        stdout=subprocess.PIPE, stdin=subprocess.DEVNULL)
+                                        stdout=subprocess.PIPE, stdin=subprocess.DEVNULL,
+                                        env={**os.environ, "OFFICE_DISK": "powersafe"})
         assert self.process.stdout is not None
         if not self.process.stdout.readline().startswith(b"listening"):
             raise Refused(3, f"{self.program} does not serve {self.file}: status {self.process.wait()}")
@@ -51,14 +52,16 @@ class Player:
         finally:
             link.close()
 
-    def acts(self, acts: list[Json]) -> list[Any]:
-        """Does acts, and returns their answers."""
+    def acts(self, acts: list[Json]) -> list[Any] | None:
+        """Does acts, and returns their answers; None if the office does none of them, as of a list that is no list."""
         if not acts:
             return []
         said = self.post("/acts", text_of(acts).encode())
-        if not isinstance(said, list):
-            raise Refused(1, f"the replay's office answers {json.dumps(said)} to acts that were done")
-        return said
+        if isinstance(said, list):
+            return said
+        if isinstance(said, dict) and said.get("error") in ("json", "act", "size"):
+            return None
+        raise Refused(3, f"the replay's office answers {text_of(said)}")
 
     def resume(self) -> object:
         return self.post("/run/resume", b"")

@@ -4,20 +4,25 @@ How much was done of a request without a whole answer nobody knows: an end of th
 replay tries what is likeliest, and goes back if an answer after it, or a row in the end, is another then.
 """
 import tempfile
+from collections import deque
 from dataclasses import dataclass, field
 from pathlib import Path
 
 from office_gate.body import Json, text_of
 from office_gate.errors import Refused
+from office_gate.places import Places
 from office_gate.playing import Player, copy
-from office_gate.requests import Kept, Request, Span, differences, keys_of, needs_of
+from office_gate.requests import Kept, Request, Span, around, differences, keys_of, needs_of
 
-MOST_PLACES = 8
-"""so many copies of the file are there at once"""
-MOST_TRIED = 40
+MOST_TRIED = 400
 """for one answer that differs so many requests are tried otherwise"""
 STEPS = 64
 """of a run that was cut so many steps are tried"""
+MOST_ACTS, MOST_BYTES = 200, 800_000
+"""so many acts of requests with an answer are done by one list; it is as if each had its own"""
+
+Rows = list[tuple[str, set[str]]]
+"""rows that differ, and what each is about"""
 
 
 @dataclass
@@ -27,7 +32,11 @@ class Difference:
     at: int
     keys: set[str]
     text: str
-    count: int = 0
+    place: int = 0
+
+    def comes_after(self, other: "Difference") -> bool:
+        """Whether it is further on, be it within the same list of acts."""
+        return (self.at, self.place) > (other.at, other.place)
 
 
 def differs(where: str, answer: object, seen: object) -> str:
@@ -44,62 +53,87 @@ class Replay:
     player: Player
     folder: Path
     chosen: list[int] = field(default_factory=list)
-    places: dict[int, Path] = field(default_factory=dict)
     tried: int = 0
 
     def __post_init__(self) -> None:
         self.chosen = [0] * len(self.requests)
-        self.mark(0)
+        # copies from which everything chosen follows; and those made while something else is tried
+        self.places, self.fresh = Places(self.player, self.folder), Places(self.player, self.folder)
+        self.marks = self.places
+        self.places.mark(0)
+        self.before, self.first = self.chosen, 0
 
     # ---- one way through
 
-    def mark(self, at: int) -> None:
-        """Copies the file as it is before a request; of many such copies some go, the older ones further apart."""
-        if at in self.places:
-            return
-        place = self.folder / f"{at}.db"
-        self.player.copy_to(place)
-        self.places[at] = place
-        if len(self.places) > MOST_PLACES:
-            known = sorted(self.places)
-            # the one whose neighbours are nearest to each other, as seen from the end
-            near = {it: (after - before) / (at - it + 1) for before, it, after in zip(known, known[1:], known[2:])}
-            self.drop(min(near, key=near.__getitem__))
-
-    def drop(self, at: int) -> None:
-        place = self.places.pop(at)
-        for end in ("", "-wal"):
-            Path(f"{place}{end}").unlink(missing_ok=True)
-
-    def go_back(self, at: int) -> int:
-        """Goes back to the nearest copy before a request, and returns its place."""
-        for it in [it for it in self.places if it > at]:
-            self.drop(it)
-        nearest = max(self.places)
-        self.player.back_to(self.places[nearest])
-        return nearest
-
     def play(self, at: int, end: int) -> Difference | None:
         """Does the requests from one place to another, until an answer differs."""
-        for it in range(at, end):
-            if len(self.spans[it]) > 1:
-                self.mark(it)
-            found = self.one(it)
+        while at < end:
+            if self.is_open(at):
+                self.marks.mark(at)
+            after, acts = self.together(at, end)
+            found = self.compare(at, after, acts) if after > at else self.one(at)
             if found:
+                return found
+            at = max(after, at + 1)
+        return None
+
+    def is_open(self, at: int) -> bool:
+        """Whether a request can be played in more than one way."""
+        return len(self.spans[at]) > 1
+
+    def together(self, at: int, end: int) -> tuple[int, list[Json]]:
+        """Returns up to which request all have whole answers, and their acts."""
+        acts: list[Json] = []
+        length = 0
+        while at < end and not self.is_open(at) and self.requests[at].acts is not None and self.requests[at].is_known:
+            more = self.of(at)
+            length += sum(len(text_of(it)) + 1 for it in more)
+            if acts and (length > MOST_BYTES or len(acts) + len(more) > MOST_ACTS):
+                break
+            acts += more
+            at += 1
+        return at, acts
+
+    def of(self, at: int) -> list[Json]:
+        """Returns the acts of a request, as much of it as is chosen."""
+        begin, end = self.spans[at][self.chosen[at]]
+        return self.kept.of(self.requests[at])[begin:end]
+
+    def compare(self, at: int, after: int, acts: list[Json]) -> Difference | None:
+        """Does the acts of requests that have whole answers."""
+        answers = self.player.acts(acts)
+        if answers is None:
+            raise Refused(1, f"line {self.requests[at].line}: the replay's office does none of these acts, and they "
+                             "were answered")
+        for it in range(at, after):
+            begin, end = self.spans[it][self.chosen[it]]
+            mine, answers = answers[:end - begin], answers[end - begin:]
+            acts, own = acts[end - begin:], acts[:end - begin]
+            if found := self.other(it, begin, own, mine):
                 return found
         return None
 
+    def other(self, at: int, begin: int, acts: list[Json], answers: list[object]) -> Difference | None:
+        """Compares the answers to a request with those that were given."""
+        request = self.requests[at]
+        for place, (act, seen) in enumerate(zip(acts, answers), begin):
+            if place < len(request.answers) and text_of(request.answers[place]) != text_of(seen):
+                given = request.answers[place]
+                return Difference(at, needs_of(act, given, seen),
+                                  differs(f"line {request.line}, act {place}", given, seen), place)
+        return None
+
     def one(self, at: int) -> Difference | None:
+        """Does a request without a whole answer, or a run."""
         request, (begin, end) = self.requests[at], self.spans[at][self.chosen[at]]
         if request.acts is None:
             return self.run(at, request, end)
-        acts = self.kept.of(request)[begin:end]
-        for place, (act, seen) in enumerate(zip(acts, self.player.acts(acts)), begin):
-            if place < len(request.answers) and text_of(request.answers[place]) != text_of(seen):
-                where = f"line {request.line}, act {place}"
-                given = request.answers[place]
-                return Difference(at, needs_of(act, given, seen), differs(where, given, seen))
-        return None
+        acts = self.of(at)
+        answers = self.player.acts(acts)
+        if answers is None and (request.is_known or request.answers):
+            raise Refused(1, f"line {request.line}: the replay's office does none of these acts, and they were done")
+        # a list that nobody can read did nothing then either
+        return self.other(at, begin, acts, answers or [])
 
     def run(self, at: int, request: Request, end: int) -> Difference | None:
         """Carries out a run: all of it, or of one that was cut so many steps."""
@@ -113,38 +147,63 @@ class Replay:
 
     # ---- other ways
 
-    def whole(self) -> Difference | None:
+    def otherwise(self, others: dict[int, int]) -> Difference | None:
+        """Plays some requests otherwise. Then `keep` stays with that, and `forget` takes it back."""
+        self.tried += 1
+        self.before, self.first = list(self.chosen), min(others)
+        for at, way in others.items():
+            self.chosen[at] = way
+        self.marks = self.fresh
+        return self.play(self.places.back_to(self.first), len(self.requests))
+
+    def keep(self) -> None:
+        self.places.drop_after(self.first)
+        self.places.take(self.fresh)
+        self.marks = self.places
+
+    def forget(self) -> None:
+        self.fresh.drop_after(-1)
+        self.chosen, self.marks = self.before, self.places
+
+    def whole(self) -> None:
         """Plays all. Where an answer differs it tries the requests before it otherwise."""
         found = self.play(0, len(self.requests))
         while found:
             found = self.mended(found)
-        return None
 
     def open_before(self, difference: Difference) -> list[int]:
         """Lists the requests that may be played otherwise, the likeliest cause first."""
-        those = [it for it in range(min(difference.at + 1, len(self.requests))) if len(self.spans[it]) > 1]
+        those = [it for it in range(min(difference.at + 1, len(self.requests))) if self.is_open(it)]
         return sorted(those, key=lambda it: (-self.concerns(it, difference.keys), -it))[:MOST_TRIED]
 
     def concerns(self, at: int, keys: set[str]) -> int:
-        """Counts what a request changes of these. A thing by its name counts more than a run, or numbers."""
+        """Tells whether a request changes any of these: 2 for a thing by its name, 1 for a run, or for numbers."""
         acts = self.requests[at].acts
         named = {"run"} if acts is None else set().union(*map(keys_of, acts))
-        return sum(2 if ":" in it else 1 for it in named & keys)
+        return max((2 if ":" in it else 1 for it in named & keys), default=0)
 
     def mended(self, difference: Difference) -> Difference | None:
         """Finds a way on which the answers are right up to here and further. Returns what differs then."""
+        self.widen(difference)
         for at in self.open_before(difference):
-            before = self.chosen[at]
-            for it in range(len(self.spans[at])):
-                if it == before:
+            for way in range(len(self.spans[at])):
+                if way == self.chosen[at]:
                     continue
-                self.chosen[at] = it
-                self.tried += 1
-                found = self.play(self.go_back(at), len(self.requests))
-                if found is None or found.at > difference.at:
+                found = self.otherwise({at: way})
+                if found is None or found.comes_after(difference):
+                    self.keep()
                     return found
-            self.chosen[at] = before
+                self.forget()
         raise Refused(1, difference.text)
+
+    def widen(self, difference: Difference) -> None:
+        """Adds the files and classes of the records: what was given to these decides about the records too."""
+        self.player.stop()
+        place = self.folder / "now.db"
+        copy(self.player.file, place)
+        difference.keys |= around(place, difference.keys)
+
+    # ---- the rows in the end
 
     def compared(self, beside: Path) -> list[str]:
         """Compares the rows with those of a file, and returns what differs once nothing else can be tried."""
@@ -152,11 +211,13 @@ class Replay:
         while found:
             better = self.nearer(beside, found)
             if better is None:
+                # what was tried last is in the file
+                self.play(self.places.back_to(len(self.requests)), len(self.requests))
                 break
             found = better
         return [it for it, _ in found]
 
-    def rows(self, beside: Path) -> list[tuple[str, set[str]]]:
+    def rows(self, beside: Path) -> Rows:
         self.player.stop()
         place = self.folder / "end.db"
         copy(self.player.file, place)
@@ -164,21 +225,25 @@ class Replay:
         other.close()
         return differences(place, beside)
 
-    def nearer(self, beside: Path, rows: list[tuple[str, set[str]]]) -> list[tuple[str, set[str]]] | None:
-        """Tries the requests that concern the rows otherwise: all at once, then one after another."""
+    def nearer(self, beside: Path, rows: Rows) -> Rows | None:
+        """Tries the requests that concern the rows otherwise: many at once, and of those that do not help the halves."""
         keys = set().union(*(it for _, it in rows))
-        difference = Difference(len(self.requests), keys, "")
-        those = [it for it in self.open_before(difference) if self.concerns(it, keys)]
-        for some in [those, *([it] for it in those)] if len(those) > 1 else [those]:
-            before = list(self.chosen)
-            for at in some:
-                self.chosen[at] = (self.chosen[at] + 1) % len(self.spans[at])
-            self.tried += 1
-            if some and self.play(self.go_back(min(some)), len(self.requests)) is None:
-                found = self.rows(beside)
-                if len(found) < len(rows):
-                    return found
-            self.chosen = before
+        those = [it for it in self.open_before(Difference(len(self.requests), keys, "")) if self.concerns(it, keys)]
+        named = sorted(it for it in those if self.concerns(it, keys) > 1)
+        groups = deque((it, 1) for it in (named, sorted(set(those) - set(named))) if it)
+        while groups:
+            some, more = groups.popleft()
+            others = {at: (self.chosen[at] + more) % len(self.spans[at]) for at in some}
+            if self.otherwise(others) is None and len(found := self.rows(beside)) < len(rows):
+                self.keep()
+                return found
+            self.forget()
+            if len(some) > 1:
+                middle = len(some) // 2
+                groups += [(some[middle:], 1), (some[:middle], 1)]
+            elif more + 1 < len(self.spans[some[0]]):
+                # other ways of one come after the first one of all
+                groups.append((some, more + 1))
         return None
 
 

@@ -74,7 +74,21 @@ def read(files: list[Path]) -> list[Request]:
                 it.answered_at = seconds(entry["at"])
             if it.acts is None and isinstance(entry.get("answer"), dict):
                 it.answers = [entry["answer"]]
-    return list(found.values())
+    return settled(list(found.values()))
+
+
+def settled(requests: list[Request]) -> list[Request]:
+    """Says of each request without an answer by when it was done, or never was: by the office's next answer to an act.
+
+    The office serves one request after another, in the order in which they come.
+    """
+    by = float("inf")
+    for it in reversed(requests):
+        if not it.is_known:
+            it.answered_at = by
+        elif it.status < 500:
+            by = it.answered_at
+    return requests
 
 
 # ---- contents, which the journal has not
@@ -159,6 +173,23 @@ def needs_of(act: Json, *answers: object) -> set[str]:
     return found
 
 
+def around(file: Path, keys: set[str]) -> set[str]:
+    """Names what the records among these things lie in, and have: their files, classes and schedules, as a file says."""
+    found: set[str] = set()
+    with closing(sqlite3.connect(file)) as db:
+        for number in [int(it.partition(":")[2]) for it in keys if it.startswith("record:")]:
+            row = db.execute("SELECT aggregation, class, schedule FROM records WHERE num = ?", (number,)).fetchone()
+            lies, *own = row or (None, None, None)
+            codes, schedules = own[:1], own[1:]
+            while lies is not None:
+                found.add(f"aggregation:{lies}")
+                above = db.execute("SELECT parent, class FROM aggregations WHERE num = ?", (lies,)).fetchone()
+                lies, code = above or (None, None)
+                codes.append(code)
+            found |= {f"class:{it}" for it in codes if it} | {f"schedule:{it}" for it in schedules if it}
+    return found
+
+
 def differences(left: Path, right: Path) -> list[tuple[str, set[str]]]:
     """Lists the rows in which two files of an office differ, with what each is about."""
     found: list[tuple[str, set[str]]] = []
@@ -168,6 +199,11 @@ def differences(left: Path, right: Path) -> list[tuple[str, set[str]]]:
             for row in differing(db, table):
                 named = dict(zip([it[1] for it in db.execute(f"PRAGMA table_info({table})")], row))
                 keys = {f"{thing}:{named[key]}"} | ({f"ref:{named['ref']}"} if "ref" in named else set())
+                if table == "entries":
+                    # what a run notes of a record depends on these
+                    keys |= {f"{it}:{named[it]}" for it in ("class", "schedule", "hold") if named[it] is not None}
+                if table == "targets":
+                    keys.add(f"{named['kind']}:{named['target']}")
                 found.append((f"{table} {key} {named[key]}", keys | ({"run"} if thing == "run" else set())))
     return found
 

@@ -16,6 +16,7 @@ from office_gate.starting import Places
 
 BACKLOG = 4096
 STOP_SECONDS = 300
+TURNS = 20
 PRUNE_SECONDS = 3600
 
 
@@ -46,7 +47,10 @@ async def watch(gate: Gate) -> None:
 async def prune(gate: Gate) -> None:
     while True:
         await asyncio.sleep(PRUNE_SECONDS)
-        await asyncio.to_thread(gate.journal.contents.prune, gate.access.content_days)
+        try:
+            await asyncio.to_thread(gate.journal.contents.prune, gate.access.content_days)
+        except OSError as error:
+            say(f"contents are not removed, and it is tried again in an hour: {error}")
 
 
 async def serve(gate: Gate, at: socket.socket) -> None:
@@ -67,7 +71,7 @@ async def serve(gate: Gate, at: socket.socket) -> None:
     print("listening", flush=True)
     await stop.wait()
     tell("STOPPING=1")
-    server.close()
+    await closed(server, at)
     await drained(front)
     for it in tasks:
         it.cancel()
@@ -77,9 +81,19 @@ async def serve(gate: Gate, at: socket.socket) -> None:
     gate.journal.close()
 
 
+async def closed(server: asyncio.Server, at: socket.socket) -> None:
+    """Takes no more connections. asyncio would drop one that it accepted in the turn before a server closes."""
+    asyncio.get_running_loop().remove_reader(at)
+    for _ in range(TURNS):
+        await asyncio.sleep(0)
+    server.close()
+
+
 async def drained(front: Front) -> None:
     """Waits until each connection that was accepted has its answer, and each act whose client went away is done."""
     ends = time.monotonic() + STOP_SECONDS
+    # a connection that was accepted a moment ago is among them only after a turn of the loop
+    await asyncio.sleep(0.01)
     while (front.connections or front.under_way) and time.monotonic() < ends:
         await asyncio.sleep(0.01)
 

@@ -6,7 +6,7 @@ import sys
 import traceback
 from collections.abc import Awaitable
 
-from aiohttp import web
+from aiohttp import HttpVersion10, HttpVersion11, web
 from aiohttp.web_protocol import RequestHandler
 
 from office_gate import guards
@@ -40,7 +40,7 @@ class Connection(RequestHandler):
         super().connection_lost(exc)
 
     def end_if_silent(self) -> None:
-        if self._current_request is None and self.transport is not None:
+        if self._current_request is None and not self._messages and self.transport is not None:
             self.transport.abort()
 
     front: "Front"
@@ -104,6 +104,7 @@ class Front(web.Server):
             name = guards.name_of(self.gate, lines)
             is_post = request.method == "POST"
             guards.site(self.gate, lines, is_post)
+            await self.gate.tell()
             asked = Asked(self.gate.access.person(name), lines.one("Office-From")[:64], guards.reason(lines),
                           dict(guards.passed(lines)))
             with self.gate.requests.one(name, self.gate.access.requests_at_once):
@@ -122,7 +123,8 @@ class Front(web.Server):
                 await self.gate.refuse(entry(name, request, lines), refused)
             raise
         except Exception:
-            await self.gate.refuse(entry(name, request, lines), Answered(500, "gate"))
+            if not journaled:
+                await self.gate.refuse(entry(name, request, lines), Answered(500, "gate"))
             raise
 
     async def act(self, path: str, asked: Asked, data: bytes) -> web.StreamResponse:
@@ -168,7 +170,8 @@ def what(request: web.BaseRequest, lines: Lines) -> str:
     verb, path = request.method, request.raw_path
     if path == MAY:
         verb, path = lines.first("Office-Method"), lines.first("Office-Path")
-    return f"{verb} {path}"[:MOST_TOLD]
+    # bytes of a path that are no text are written as such
+    return f"{verb} {path}".encode(errors="backslashreplace").decode()[:MOST_TOLD]
 
 
 def entry(name: str, request: web.BaseRequest, lines: Lines) -> dict[str, object]:
@@ -177,8 +180,10 @@ def entry(name: str, request: web.BaseRequest, lines: Lines) -> dict[str, object
 
 
 def method(request: web.BaseRequest) -> None:
-    """Refuses a path that is none, and another method than that of the path."""
+    """Refuses another HTTP than 1.0 and 1.1, a path that is none, and another method than that of the path."""
     path = request.raw_path
+    if request.version not in (HttpVersion10, HttpVersion11):
+        raise Answered(400, "head")
     if path in POSTS:
         if request.method != "POST":
             raise Answered(405, "method")

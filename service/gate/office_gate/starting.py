@@ -51,6 +51,7 @@ def opened(places: Places, address: str) -> Gate:
 async def begin(gate: Gate) -> None:
     """Writes that the gate is open, and which requests an end of the gate left without an answer."""
     await gate.journal.append({"what": "opened", "settings": gate.access.digest})
+    gate.told = gate.access.digest
     for line in unanswered(gate.journal.path, gate.facts):
         await gate.journal.append({"what": "answered", "of": line, "status": 0, "known": False})
     catch_up(gate.journal.path, gate.facts, gate.journal.head)

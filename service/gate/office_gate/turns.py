@@ -15,11 +15,16 @@ class Turns:
         self.waiting: dict[str, deque[asyncio.Future[None]]] = {}
 
     def count(self) -> int:
-        return sum(map(len, self.waiting.values()))
+        return sum(not it.done() for line in self.waiting.values() for it in line)
 
     @contextlib.asynccontextmanager
-    async def turn(self, name: str) -> AsyncIterator[None]:
-        await self.wait(name)
+    async def turn(self, name: str, ends: float) -> AsyncIterator[None]:
+        """Takes a turn. Answered 503 `office` says that none came up to that moment."""
+        try:
+            async with asyncio.timeout_at(ends):
+                await self.wait(name)
+        except TimeoutError:
+            raise Answered(503, "office") from None
         try:
             yield
         finally:

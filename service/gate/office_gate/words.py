@@ -20,7 +20,7 @@ SIGNED = ("place-hold", "confirm", "review", "open-run", "receipt", "event")
 OF_RECORD = ("set-record-schedule", "confirm", "review", "receipt", "event")
 """the kinds whose member `record` names what they are about"""
 RUN = ("open-run", "run-step", RESUME)
-DECISIONS = ("confirm", "review", "set-record-schedule", "reclassify", "set-class-schedule")
-"""the kinds that decide which records a run takes"""
+DECISIONS = ("confirm", "review", "event", "set-record-schedule", "reclassify", "set-class-schedule")
+"""the kinds that decide which records a run takes: an event, too, may make a confirmation count again"""
 GIVES = ("set-record-schedule", "reclassify", "set-class-schedule", "review", "add-record", "add-aggregation", "add-class")
 """the kinds that give a record, a file or a class its schedule or class"""

@@ -4,10 +4,12 @@ A reading is asked again until its answer is whole. An act is sent once, and who
 """
 import json
 import pathlib
+import signal
 import socket
 import subprocess
 import threading
 import time
+from typing import Any
 
 from gate_trial.base import SETTINGS
 from gate_trial.judging import judge, same
@@ -15,6 +17,14 @@ from gate_trial.world import HERE, TOKEN, World
 
 RECORD = b'{"number":1,"class":"BLDG1","status":"here","aggregation":1}'
 ACT = {"act": "place-hold", "code": "H", "reason": "r"}
+# what an office refuses, but nobody knows that of a request without an answer
+STRANGE: list[dict[str, Any]] = [{"act": "reclassify", "target": it, "class": "BLDG1"} for it in
+           ("aggregation:x", "aggregation:", "aggregation:1:2", "aggregation:" + "9" * 30, ["aggregation:1"], None)]
+STRANGE += [{"act": "reclassify", "target": "aggregation:1", "class": it} for it in ({"a": 1}, 1.5, ["BLDG1"], 10**30, True)]
+STRANGE += [{"act": "add-aggregation", "ref": {}, "title": 1, "class": {"a": 1}, "parent": "x"},
+            {"act": "add-class", "code": ["a"], "title": "t", "schedule": {}}, {"act": "confirm", "record": {"a": 1}},
+            {"act": "set-class-schedule", "class": {"a": "b"}, "schedule": 1}, {"act": "open-run", "day": {}},
+            {"act": "add-record", "content": 5, "class": [], "aggregation": 10**12}]
 
 
 def whole(body: bytes, *lines: str, status: str = "200 OK") -> bytes:
@@ -76,6 +86,8 @@ def tried(folder: pathlib.Path) -> None:
     world.start_gate()
     pieces(world, stand)
     cut(world, stand)
+    strange(world, stand)
+    broken(world, stand)
     passed(world, stand)
     judge("the chain holds", world.check().returncode == 0, world.check().stderr)
     stand.link.close()
@@ -116,6 +128,36 @@ def cut(world: World, stand: Stand) -> None:
         same(f"{name}: it was sent once", len(stand.asked), 1)
         line = world.last("answered")
         same(f"{name}: the journal says that nobody knows", (line["status"], line["known"]), (502, False))
+
+
+def strange(world: World, stand: Stand) -> None:
+    """Acts without an answer that no office would do: the next act is done, and the next start is one."""
+    for act in STRANGE:
+        stand.told(b"", DONE)
+        same(f"{act}: nobody knows", world.act("records-manager", act), (502, {"error": "unknown"}))
+        same(f"{act}: the next act", world.act("legal", ACT)[0], 200)
+    judge("all of it is noted", "is not noted" not in (world.folder / "log").read_text())
+    world.stop_gate(signal.SIGKILL)
+    for it in world.state.glob("facts.db*"):
+        it.unlink()
+    world.start_gate()
+    stand.told(DONE)
+    same("after a start, from the journal", world.act("legal", ACT)[0], 200)
+
+
+def broken(world: World, stand: Stand) -> None:
+    """An answer that is no JSON, as the gate asks for a class: nothing is done, and the journal has the act whole."""
+    act = {"act": "confirm", "record": 1, "action": "destroy"}
+    for answer in (whole(b"no JSON"), whole(b"[1]"), whole(b'{"number":1}')):
+        stand.told(answer)
+        same(f"{answer[-12:]!r}: an act", world.act("department", act), (500, {"error": "gate"}))
+        line = world.last("refused")
+        same(f"{answer[-12:]!r}: the line", (line["name"], line["status"], line["acts"][0]["record"]), ("department", 500, 1))
+        same(f"{answer[-12:]!r}: it was not sent", [it[:4] for it in stand.asked], [b"GET "])
+    stand.told(whole(b"[1]"))
+    same("answers that are none are passed on", world.act("legal", ACT), (200, [1]))
+    stand.told(DONE)
+    same("and the next act is done", world.act("legal", ACT)[0], 200)
 
 
 def passed(world: World, stand: Stand) -> None:

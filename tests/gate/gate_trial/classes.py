@@ -2,6 +2,7 @@
 import gzip
 import json
 import pathlib
+import resource
 import time
 
 from gate_trial.base import SETTINGS, filing, made
@@ -23,6 +24,7 @@ def tried(folder: pathlib.Path) -> None:
     foreign(world)
     lists(world)
     own(world)
+    behind(world)
     read(world)
     catalogue(world)
     unknown(world)
@@ -124,6 +126,22 @@ def own(world: World) -> None:
     same("and back", (status, said), (200, [{"done": True}, {"done": True}]))
     world.act("records-manager", {"act": "reclassify", "target": "aggregation:3", "class": FOREIGN})
     refused(world, "a file that somebody else gave another class", filing(5, 3))
+
+
+def behind(world: World) -> None:
+    """A class that was given while the disk took nothing but the journal counts for the next act."""
+    file = world.act("clerk", {"act": "add-aggregation", "ref": "D", "title": "D", "parent": 1})[1][0]["number"]
+    same("one's own file", world.act("clerk", filing(50, file))[0], 200)
+    noted = world.state / "facts.db-wal"
+    judge("the journal is the shorter file", world.journal.stat().st_size < noted.stat().st_size - 4000)
+    resource.prlimit(world.gate.pid, resource.RLIMIT_FSIZE, (noted.stat().st_size, resource.RLIM_INFINITY))
+    status, _ = world.act("records-manager", {"act": "reclassify", "target": f"aggregation:{file}", "class": FOREIGN})
+    same("another class is given", status, 200)
+    judge("and not noted", "is not noted" in (world.folder / "log").read_text())
+    same("as long as it is not, nobody acts", world.act("clerk", filing(51, file)), (503, {"error": "journal"}))
+    resource.prlimit(world.gate.pid, resource.RLIMIT_FSIZE, (resource.RLIM_INFINITY, resource.RLIM_INFINITY))
+    refused(world, "the file is no longer one's own", filing(51, file))
+    same("what is one's own passes", world.act("clerk", filing(51, 1))[0], 200)
 
 
 def read(world: World) -> None:

@@ -1,5 +1,6 @@
 """Four eyes: what one name did keeps it from the other step, also by way of a list, a file or a class."""
 import contextlib
+import json
 import pathlib
 import sqlite3
 import time
@@ -25,6 +26,11 @@ def tried(folder: pathlib.Path) -> None:
     changer(world)
     within(world)
     filer(world)
+    counted_again(world)
+    unconfirmed(world)
+    unknown(world)
+    making(world)
+    lone(world)
     reasons(world)
     off(world)
     judge("the chain holds", world.check().returncode == 0, world.check().stderr)
@@ -139,6 +145,92 @@ def filer(world: World) -> None:
     same("berta confirms", world.act("berta", confirm(record))[0], 200)
     same("a filing without one does not count", world.act("carl", OPEN)[0], 200)
     same("anna carries it out", resume(world, "anna"), 200)
+
+
+def counted_again(world: World) -> None:
+    """A confirmation that does not count as the run is opened may count once it is open: an event brings the day back."""
+    rule = "confirmer-does-not-open"
+    world.act("records-manager", {"act": "add-schedule", "code": "E0", "trigger": "event", "unit": "days", "count": 0,
+                                  "offset": "none", "action": "destroy"})
+    record = world.act("registry", filing(40, 1, b"abc", schedule="E0"))[1][0]["number"]
+    first, other = ({"act": "event", "record": record, "occurred": today(it)} for it in (-1, -2))
+    same("an event", world.act("registry", first)[0], 200)
+    same("anna confirms", world.act("anna", confirm(record))[0], 200)
+    same("another event", world.act("registry", other)[0], 200)
+    due = {it["record"]: it["confirmed"] for it in world.get("anna", f"/due/{today()}")[1]}
+    same("her confirmation does not count", due[record], False)
+    eyes(world, "it may count again", "anna", rule, OPEN)
+    eyes(world, "opened, and an event in the same list", "carl", rule, OPEN, first)
+    same("berta opens", world.act("berta", OPEN)[0], 200)
+    eyes(world, "she records no event while it is open", "berta", rule, first)
+    same("the registry does", world.act("registry", first)[0], 200)
+    same("carl carries it out", resume(world, "carl"), 200)
+    same("the confirmation counted again", world.get("carl", f"/records/{record}")[1]["status"], "ended")
+
+
+def unconfirmed(world: World) -> None:
+    """What nobody has confirmed yet may be confirmed while the run is open."""
+    record = world.act("registry", filing(41, 1))[1][0]["number"]
+    same("carl gives a schedule", world.act("carl", {"act": "set-record-schedule", "record": record,
+                                                     "schedule": "D0"})[0], 200)
+    eyes(world, "nobody confirmed it yet", "carl", "changer-does-not-open", OPEN)
+    same("anna opens", world.act("anna", OPEN)[0], 200)
+    same("berta confirms meanwhile, and carries it out", (world.act("berta", confirm(record))[0], resume(world, "berta")),
+         (200, 200))
+    same("the run took it", world.get("carl", f"/records/{record}")[1]["status"], "ended")
+
+
+def past(world: World, act: dict) -> int:
+    """Does an act past the gate, and returns the number of what it made."""
+    return json.loads(world.direct("POST", "/acts", json.dumps([{**act, "day": today()}]).encode())[1])[0]["number"]
+
+
+def unknown(world: World) -> None:
+    """What lies in a file that the gate does not know counts as changed by whoever changed some file."""
+    file = past(world, {"act": "add-aggregation", "ref": "P", "title": "P", "class": "BLDG1"})
+    record = past(world, filing(42, file))
+    same("carl gives a class", world.act("carl", {"act": "reclassify", "target": f"aggregation:{file}",
+                                                  "class": "BLDG1"})[0], 200)
+    same("berta confirms", world.act("berta", confirm(record))[0], 200)
+    eyes(world, "the gate does not know the file", "carl", "changer-does-not-open", OPEN)
+    same("anna, who changed no file, opens", world.act("anna", OPEN)[0], 200)
+    same("berta carries it out", resume(world, "berta"), 200)
+
+
+def making(world: World) -> None:
+    """Who opened a run makes nothing that has a schedule or a class of its own while it is open."""
+    rule = "changer-does-not-open"
+    own = filing(43, 1, b"abc", schedule="D0")
+    eyes(world, "opened, and filed in the same list", "berta", rule, OPEN, own)
+    same("anna opens", world.act("anna", OPEN)[0], 200)
+    eyes(world, "she files nothing with a schedule", "anna", rule, own)
+    eyes(world, "nor with a class", "anna", rule, filing(43, 1, **{"class": "BLDG1"}))
+    eyes(world, "nor makes a file", "anna", rule, {"act": "add-aggregation", "ref": "Q", "title": "Q", "class": "BLDG1"})
+    same("without one she does", world.act("anna", filing(44, 1))[0], 200)
+    same("and somebody else may", world.act("registry", filing(45, 1, b"abc", schedule="D0"))[0], 200)
+    same("berta carries it out", resume(world, "berta"), 200)
+
+
+def lone(world: World) -> None:
+    """A rule that is off refuses nothing; of two the one is named that is on."""
+    acts = (confirm(1), {"act": "set-record-schedule", "record": 1, "schedule": "D0"},
+            {"act": "event", "record": 1, "occurred": today()})
+    for rule in ("confirmer-does-not-open", "changer-does-not-open 30"):
+        world.reload(f"{ROLES}{NAMES}rule {rule}\n")
+        same(f"{rule}: berta opens", world.act("berta", OPEN)[0], 200)
+        for act in acts:
+            eyes(world, f"{rule}: no {act['act']} while it is open", "berta", rule.split()[0], act)
+        same(f"{rule}: she carries it out", resume(world, "berta"), 200)
+    world.reload(f"{ROLES}{NAMES}rule confirmer-does-not-open\n")
+    same("anna opens", world.act("anna", OPEN)[0], 200)
+    same("and files with a schedule, since that rule is off", world.act("anna", filing(46, 1, b"abc",
+                                                                                        schedule="D0"))[0], 200)
+    same("she carries it out", resume(world, "anna"), 200)
+    world.reload(f"{ROLES}{NAMES}rule opener-does-not-carry-out\n")
+    same("berta opens, and confirms", (world.act("berta", OPEN)[0], world.act("berta", confirm(999))[0]), (200, 409))
+    same("she does not carry it out", resume(world, "berta"), 403)
+    same("anna does", resume(world, "anna"), 200)
+    world.reload(ROLES + NAMES + RULES)
 
 
 def reasons(world: World) -> None:

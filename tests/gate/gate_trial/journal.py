@@ -34,6 +34,9 @@ def tried(folder: pathlib.Path) -> None:
     beside(world)
     alone(world)
     full(world)
+    cut_again(world)
+    other_settings(world)
+    before_the_first(world)
     readings(world)
     world.end()
 
@@ -145,6 +148,23 @@ def rotated(world: World) -> None:
     oldest.rename(world.folder / "put-away")
     same("without the oldest one the others hold", check(world.journal)[0], 0)
     (world.folder / "put-away").rename(oldest)
+    begun(world)
+
+
+def begun(world: World) -> None:
+    """A stop in the middle of the first line of a new file, or of what is left in the file before: the chain goes on."""
+    for at, (old, new) in enumerate(((b"", b'{"before":"00'), (b"xy", b""), (b"xy\n", b"z"), (b"x\ny", b"z\n"))):
+        with world.journal.open("ab") as file:
+            file.write(old)
+        number = whole_lines(world)[-1]["line"]
+        world.journal.rename(world.folder / f"journal-2026011{at}")
+        world.journal.write_bytes(new)
+        world.start_gate()
+        line = stop_and_read(world, 1)
+        same(f"{old!r} and {new!r}: the next line", line["line"], number + 1)
+        pieces = [it for part in (old, new) if part for it in part.removesuffix(b"\n").split(b"\n")]
+        same(f"{old!r} and {new!r}: what it tells", line["torn"], chain.torn(b"\n".join(pieces)))
+        same(f"{old!r} and {new!r}: the chain holds", check(world.journal)[0], 0)
 
 
 def beside(world: World) -> None:
@@ -169,7 +189,7 @@ def beside(world: World) -> None:
         it.start()
     turns = 0
     while any(it.is_alive() for it in threads):
-        time.sleep(0.3)
+        time.sleep(0.1)
         turns += 1
         world.journal.rename(world.folder / f"journal-202602{turns:04d}")
         world.gate.send_signal(signal.SIGHUP)
@@ -181,8 +201,7 @@ def beside(world: World) -> None:
     world.stop_gate()
     status, said = check(world.journal)
     judge(f"the chain holds over {turns} rotations", status == 0 and "from line 1," in said and turns > 2, (turns, said))
-    lines = [json.loads(it) for place in world.folder.glob("journal-202602*") for it in place.read_bytes().splitlines()]
-    lines += whole_lines(world)
+    lines = [it for place in [*world.folder.glob("journal-202602*"), world.journal] for it in whole_in(place)]
     count = Counter(it["request"].split("/")[1] for it in lines if it["what"] in ("asked", "read"))
     same("lines of readings and acts", (count["records"], count["acts"]), (4 * EACH, 4 * EACH))
 
@@ -229,6 +248,60 @@ def full(world: World) -> None:
     same("the chain holds over that", check(world.journal)[0], 0)
 
 
+def at_most(world: World, size: int) -> None:
+    """Lets the gate write no file beyond so many bytes."""
+    resource.prlimit(world.gate.pid, resource.RLIMIT_FSIZE, (size, resource.RLIM_INFINITY))
+
+
+def cut_again(world: World) -> None:
+    """A disk that takes some bytes now and then: each rest is kept, and the first whole line tells of all of it."""
+    hold = {"act": "place-hold", "code": "CUT", "reason": "r"}
+    for kill in (False, True):
+        begins = world.journal.stat().st_size
+        for more in (100, 1, 60, 2, 90):
+            at_most(world, world.journal.stat().st_size + more)
+            same(f"an act with room for {more} bytes", world.act("legal", hold), (503, {"error": "journal"}))
+            same(f"a reading with room for {more} bytes", world.ask("auditor", "GET", "/records/1")[0], 503)
+        rest = world.journal.read_bytes()[begins:]
+        judge("there is more than one rest", rest.count(b"\n") > 2, rest)
+        if kill:
+            world.stop_gate(signal.SIGKILL)
+            world.start_gate()
+        at_most(world, resource.RLIM_INFINITY)
+        status, _ = world.act("legal", {**hold, "code": f"CUT{kill}"})
+        same("with room it is done", status, 200)
+        told = [it["torn"] for it in whole_lines(world) if "torn" in it][-1]
+        same("the line tells of all that is before it", told, chain.torn(rest.removesuffix(b"\n")))
+        same("the chain holds over that", check(world.journal)[0], 0)
+
+
+def other_settings(world: World) -> None:
+    """Other settings on a full disk: the journal has them before anything that is decided by them."""
+    at_most(world, world.journal.stat().st_size)
+    world.settings.write_text("site https://localhost\nzone UTC\n" + SETTINGS + "name extra is auditor\n")
+    world.gate.send_signal(signal.SIGHUP)
+    for _ in range(500):
+        if "new settings" in (world.folder / "log").read_text():
+            break
+        time.sleep(0.01)
+    same("while the disk is full", world.ask("extra", "GET", "/records/1")[0], 503)
+    at_most(world, resource.RLIM_INFINITY)
+    same("with room they count", world.ask("extra", "GET", "/records/1")[0], 200)
+    lines = whole_lines(world)
+    found = [it["what"] for it in lines[-2:]]
+    same("the journal has them first", (found, lines[-2].get("sha256")),
+         (["settings", "read"], chain.digest(world.settings.read_bytes())))
+
+
+def before_the_first(world: World) -> None:
+    """Bytes before the first line of all are found too."""
+    place = world.folder / "forged/journal"
+    data = (world.folder / "journal-20260101").read_bytes()
+    for rest in (b"something\n", b"\n", b'{"line":0}\n', data.splitlines(keepends=True)[0]):
+        place.write_bytes(rest + data)
+        same(f"{rest[:20]!r} before the first line", check(place)[0], 1)
+
+
 def readings(world: World) -> None:
     """The journal has readings, or only those that were refused."""
     count = len(whole_lines(world))
@@ -249,7 +322,11 @@ def readings(world: World) -> None:
 
 
 def whole_lines(world: World) -> list[dict]:
-    lines = world.journal.read_bytes().split(b"\n")
+    return whole_in(world.journal)
+
+
+def whole_in(place: pathlib.Path) -> list[dict]:
+    lines = place.read_bytes().split(b"\n")
     return [json.loads(it) for it in lines if it.startswith(b'{"before"') and it.endswith(b"}")]
 
 

@@ -11,6 +11,16 @@ from gate_trial.world import TOKEN, World, today
 
 NAMES = ["registry", "records-manager", "legal", "department", "auditor", "archive"]
 LIFT = [{"act": "lift-hold", "day": today(), "hold": "H"}]
+# how a request line could be written so that nginx and the gate read two things in it; HERE is the site
+ACTING = ["HERE/city/acts", "http://localhost/city/acts", "/city/../city/acts", "//city//acts", "/city/%61cts", "/CITY/acts",
+          "/city/ACTS", "/city/acts/", "/city/acts?x", "/city/acts;x", "/city/acts%00", "/city/acts%0a", "/city/acts\xff",
+          "city/acts", "*", "POST /city/acts", "POST /city/acts HTTP/1.0", "POST /city/acts HTTP/2.0",
+          "post /city/acts HTTP/1.1", "PoST /city/acts HTTP/1.1", "GET /city/acts HTTP/1.1", "PUT /city/acts HTTP/1.1"]
+READING = ["/city/records/2", "HERE/city/records/2", "/city/./records/2", "/city/records/1/../2", "/city/%72ecords/2",
+           "/city/records/%32", "/city//records/2", "/city/records/2/content", "/city/records/1/files/../../2/files"]
+FOLDED = ["X: a\r\n Office-Name: legal\r\n", "Office-Name: a\r\n legal\r\n", "\tOffice-Name: legal\r\n",
+          "Office-Name : legal\r\n", "Office-Name:legal\r\nOFFICE-NAME:legal\r\n",
+          "Connection: Office-Name, Office-Token\r\n", "Connection: Origin, Host\r\n"]
 
 
 def tried(folder: pathlib.Path) -> None:
@@ -28,6 +38,7 @@ def tried(folder: pathlib.Path) -> None:
     own(proxy)
     forged(proxy, world)
     smuggled(proxy, world)
+    spelled(proxy, world)
     away(proxy, world)
     judge("the chain holds", world.check().returncode == 0, world.check().stderr)
     proxy.stop()
@@ -125,6 +136,36 @@ def smuggled(proxy: Proxy, world: World) -> None:
     judge("nobody but registry did any of this", {it["name"] for it in world.lines()[before:]} <= {"registry", ""},
           world.lines()[before:])
     judge("and nothing was sent", all(it["what"] != "asked" for it in world.lines()[before:]))
+
+
+def spelled(proxy: Proxy, world: World) -> None:
+    """Other spellings of a request line, and folded lines: none acts, and none reads another's record."""
+    before = len(world.lines())
+    for target in ACTING:
+        status, found = written(proxy, target if " " in target else f"POST {target} HTTP/1.1")
+        judge(f"{target!r}", 400 <= status < 600 or status == 0, (status, found))
+    for target in READING:
+        status, found = written(proxy, f"GET {target} HTTP/1.1")
+        judge(f"{target!r}", status in (400, 403, 404) and b"title" not in found, (status, found))
+    for more in FOLDED:
+        status, found = written(proxy, "POST /city/acts HTTP/1.1", more)
+        judge(f"{more!r}", status in (400, 403), (status, found))
+    for host in ("evil.example", "localhost", f"LOCALHOST:{proxy.port}", "", f"localhost:{proxy.port}@evil"):
+        status, found = written(proxy, f"POST {proxy.here}/city/acts HTTP/1.1", host=host)
+        judge(f"an address, and the host {host!r}", status in (400, 403, 421), (status, found))
+    since = world.lines()[before:]
+    judge("nobody but department did any of this", {it["name"] for it in since} <= {"department", ""}, since)
+    judge("and nothing was sent, nor read", {it["what"] for it in since} == {"refused"}, since)
+
+
+def written(proxy: Proxy, first: str, more: str = "", host: str | None = None) -> tuple[int, bytes]:
+    """Sends a lift of a hold as department, who may not lift, with a request line and further lines as they are written."""
+    auth = base64.b64encode(f"department:{PASSWORD}".encode()).decode()
+    lines = [first.replace("HERE", proxy.here), f"Host: {f'localhost:{proxy.port}' if host is None else host}",
+             f"Authorization: Basic {auth}", f"Origin: {proxy.here}"]
+    body = json.dumps(LIFT).encode()
+    head = "\r\n".join(lines) + f"\r\n{more}Content-Length: {len(body)}\r\n\r\n"
+    return proxy.raw(head.encode("latin-1") + body)
 
 
 def away(proxy: Proxy, world: World) -> None:

@@ -2,6 +2,7 @@
 import datetime
 import pathlib
 import shutil
+import signal
 import subprocess
 import threading
 import time
@@ -21,6 +22,7 @@ def tried(folder: pathlib.Path) -> None:
     copy = copied(world)
     moment = datetime.datetime.now(datetime.UTC).isoformat()
     work(world)
+    unread(world)
     now = closed(world)
     same("the copy and the journal are the office of now", replayed(world, copy, "--beside", now)[0], 0)
     until(world, copy, moment)
@@ -61,6 +63,27 @@ def work(world: World) -> None:
     same("a run", world.ask("records-manager", "POST", "/run/resume", b"")[0], 200)
     world.act("legal", {"act": "lift-hold", "hold": "LAW"})
     world.act("registry", {"act": "add-aggregation", "ref": "last", "title": "last", "class": "PER1"})
+
+
+def unread(world: World) -> None:
+    """Kills the gate while lists are at the office that it does not read, or of which it refuses all: they did nothing."""
+    for at, acts in enumerate(([{"act": "lift-hold", "hold": 5}], [{"act": "place-hold", "code": "H", "reason": "r" * 5000}],
+                               [{"act": "place-hold", "code": "UNREAD", "reason": "r"}, {"act": "lift-hold"}],
+                               [{"act": "lift-hold", "hold": "NONE"}], [{"act": "place-hold", "code": "READ", "reason": "r"}])):
+        world.office.send_signal(signal.SIGSTOP)
+        count = sum(it["what"] == "asked" for it in world.lines())
+        one = threading.Thread(target=world.act, args=("legal", *acts))
+        one.start()
+        while sum(it["what"] == "asked" for it in world.lines()) == count:
+            time.sleep(0.02)
+        # the office has the request by then
+        time.sleep(0.3)
+        world.stop_gate(signal.SIGKILL)
+        one.join()
+        world.office.send_signal(signal.SIGCONT)
+        world.start_gate()
+        same(f"list {at}: nobody knows", world.last("answered")["known"], False)
+        same(f"list {at}: the next act", world.act("legal", {"act": "place-hold", "code": f"NEXT{at}", "reason": "r"})[0], 200)
 
 
 def closed(world: World) -> pathlib.Path:

@@ -30,10 +30,10 @@ def head(*more: str, first: str = "POST /acts HTTP/1.1", without: str = "") -> b
     return "\r\n".join([first, *(f"{name}: {value}" for name, value in lines.items()), *more, "", ""]).encode()
 
 
-def wanted(world: World, what: str, data: bytes, *statuses: int, half: bool = False) -> object:
+def wanted(world: World, what: str, data: bytes, *statuses: int, half: bool = False, later: float = 0) -> object:
     """Sends bytes that are refused, and looks for their line in the journal."""
     count = len(world.lines())
-    status, body = parted(world.raw(data, half))
+    status, body = parted(world.raw(data, half, later))
     judge(f"{what}: {statuses}", status in statuses, (status, body))
     lines = world.lines()[count:]
     for _ in range(100):
@@ -69,14 +69,22 @@ def forms(world: World) -> None:
     wanted(world, "a CR alone", head("Content-Length: 51", "X: a\rContent-Length: 2") + BODY, 400)
     wanted(world, "many lines", head("Content-Length: 51", *(f"X-{it}: 1" for it in range(200))) + BODY, 400)
     wanted(world, "a long line", head("Content-Length: 51", f"X: {'a' * 70000}") + BODY, 400)
+    for name, more in (("nobody", " legal"), ("nobody", "\tlegal"), ("nobody\r\nX: a", " Office-Name: legal"),
+                       ("nobody\r\nX: a", "\tOffice-Name: legal")):
+        data = head(f"Content-Length: {len(BODY)}", f"Office-Name: {name}", more, without="Office-Name") + BODY
+        wanted(world, f"a name and a folded line {more!r}", data, 400, 401, 403)
+        judge(f"nobody's: {more!r}", world.last("refused")["name"] in ("", "nobody"), world.last("refused"))
+    for other in ("Content-length", "CONTENT-LENGTH"):
+        wanted(world, f"also {other}", head(f"Content-Length: {len(BODY)}", f"{other}: 2") + BODY, 400)
     wanted(world, "a compressed body", head(f"Content-Length: {len(BODY)}", "Content-Encoding: gzip") + BODY[::-1], 400)
 
 
 def cut(world: World) -> None:
     """A body that ends before its length does nothing."""
-    for length in (len(BODY) + 1, len(BODY) + 5000, 1048576):
-        wanted(world, f"a body cut at {len(BODY)} of {length}", head(f"Content-Length: {length}") + BODY, 400, 0,
-               half=True)
+    # at once, or while the gate waits for more
+    for length, later in ((len(BODY) + 1, 0.0), (len(BODY) + 1, 0.3), (len(BODY) + 5000, 0.0), (1048576, 0.3)):
+        wanted(world, f"a body cut at {len(BODY)} of {length} after {later} s", head(f"Content-Length: {length}") + BODY,
+               400, 0, half=True, later=later)
         same("the word in the journal", world.last("refused")["answer"], {"error": "body"})
     same("a head that is cut gets no answer", world.raw(head("Content-Length: 51")[:40], half=True)[:12] in
          (b"", b"HTTP/1.1 400"), True)
@@ -123,6 +131,11 @@ def nginx_alone(world: World) -> None:
     same("without a token the journal has no name", world.last("refused")["name"], "")
     wanted(world, "two tokens", head(length, f"Office-Token: {TOKEN}") + BODY, 400)
     wanted(world, "two names", head(length, "Office-Name: records-manager") + BODY, 400)
+    for other in ("office-name", "OFFICE-NAME", "oFFICE-nAME"):
+        wanted(world, f"two names, {other}", head(length, f"{other}: records-manager") + BODY, 400)
+        wanted(world, f"{other} alone", head(length, f"{other}: nobody", without="Office-Name") + BODY, 403)
+    for other in ("Office_Name", "X-Office-Name", "Office-Name-", "Office.Name"):
+        wanted(world, f"{other} is no name", head(length, f"{other}: legal", without="Office-Name") + BODY, 401)
     for name in ("", "a b", "legal\u00e9", "x" * 65, "legal,registry", "*"):
         wanted(world, f"name {name[:8]!r}", head(length, f"Office-Name: {name}", without="Office-Name") + BODY, 401)
     wanted(world, "no name", head(length, without="Office-Name") + BODY, 401)
@@ -134,6 +147,20 @@ def paths(world: World) -> None:
                  "/records",
                  "http://localhost/acts", "*", "/replica", "/vault/" + "a" * 64):
         wanted(world, f"POST {path}", head("Content-Length: 2", first=f"POST {path} HTTP/1.1") + b"[]", 404, 405, 400)
+    for first in ("POST http://localhost/acts HTTP/1.1", "POST https://localhost/acts HTTP/1.1", "POST acts HTTP/1.1",
+                  "POST localhost:443 HTTP/1.1", "POST /acts HTTP/2.0", "POST /acts HTTP/0.9", "POST /acts", "Post /acts HTTP/1.1", "POST /Acts HTTP/1.1",
+                  "POST /acts\t HTTP/1.1", "POST /Run/resume HTTP/1.1", "POST /run/resume/ HTTP/1.1",
+                  "POST /run/resume?x HTTP/1.1", "POST /run%2fresume HTTP/1.1", "GET /run/resume HTTP/1.1"):
+        wanted(world, first, head("Content-Length: 2", first=first) + b"[]", 404, 405, 400)
+    # what follows is no request of HTTP, so this one may get no answer
+    wanted(world, "CONNECT", head("Content-Length: 2", first="CONNECT localhost:443 HTTP/1.1") + b"[]", 404, 405, 400, 0)
+    for first in ("POST  /acts HTTP/1.1", "POST /acts  HTTP/1.1", "POST /acts HTTP/1.0"):
+        length, name = f"Content-Length: {len(BODY)}", "Office-Name: auditor"
+        wanted(world, first, head(length, name, first=first, without="Office-Name") + BODY, 403, 400)
+        judge(f"{first}: it is the request that the journal has", world.last("refused")["request"]
+              in ("POST /acts", "no request"), world.last("refused"))
+    for path in (b"/records/\xff", b"/records/\xed\xa0\x80", b"/records/1\xff/content"):
+        wanted(world, f"GET {path!r}", head(first="GET @ HTTP/1.1").replace(b"@", path), 404, 400)
     for path in ("/records/01", "/records/1/", "/records/1/content/", "/records/1%2fcontent", "/records/+1",
                  "/due/2025",
                  "/records/1?x", "/catalogue/records.json", "/records/1/files", "/records/\u0661"):

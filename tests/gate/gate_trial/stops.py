@@ -6,12 +6,17 @@ import signal
 import socket
 import threading
 import time
+from collections import Counter
 
 from gate_trial.base import SETTINGS, plan
 from gate_trial.judging import judge, same
 from gate_trial.world import HERE, TOKEN, World, today
 
 ROUNDS = 5
+STOPS = 20
+"""so often the gate stops under requests: one that comes as it stops is seldom"""
+LONG = b"[" + b'{"act":"lift-hold"},' * 50_000
+"""what the gate reads for a while, and refuses, so that much comes in one turn of its loop"""
 
 
 def tried(folder: pathlib.Path) -> None:
@@ -24,10 +29,13 @@ def tried(folder: pathlib.Path) -> None:
     same("the plan", world.act("records-manager", *plan())[0], 200)
     judge("the watchdog hears from it", notes.has(b"WATCHDOG=1", 10))
     of_the_office(world)
+    had(world)
     cut(world)
     of_the_gate(world)
+    accepted(world)
     gone(world)
-    same("systemd is told of the end", (world.stop_gate(), notes.has(b"STOPPING=1", ROUNDS + 3)), (0, True))
+    away(world)
+    same("systemd is told of the end", (world.stop_gate(), notes.has(b"STOPPING=1", STOPS + 4 * ROUNDS + 3)), (0, True))
     judge("the chain holds", world.check().returncode == 0, world.check().stderr)
     world.end()
 
@@ -81,6 +89,27 @@ class Clients:
         return self.found
 
 
+class Long:
+    """Clients that send long bodies, which are no lists, until they are stopped."""
+
+    def __init__(self, world: World, count: int = 3) -> None:
+        self.world, self.stop = world, threading.Event()
+        self.found: list[int] = []
+        self.threads = [threading.Thread(target=self.run) for _ in range(count)]
+        for it in self.threads:
+            it.start()
+
+    def run(self) -> None:
+        while not self.stop.is_set():
+            self.found.append(self.world.ask("legal", "POST", "/acts", LONG)[0])
+
+    def end(self) -> list[int]:
+        self.stop.set()
+        for it in self.threads:
+            it.join()
+        return self.found
+
+
 def of_the_office(world: World) -> None:
     """Requests wait while the office is away. What was under way as it was killed is unknown, and nobody says else."""
     clients = Clients(world)
@@ -92,13 +121,50 @@ def of_the_office(world: World) -> None:
     time.sleep(0.5)
     found = clients.end()
     statuses = [status for status, _ in found]
-    judge("each request has an answer", set(statuses) <= {200, 409, 502}, set(statuses))
+    # no code is there twice, so a refusal would say that an act was sent twice
+    judge("each request has an answer", set(statuses) <= {200, 502}, set(statuses))
     # one that the office had, and one that it was about to take as it ended
     judge("two at most were lost at each kill", statuses.count(502) <= 2 * ROUNDS, statuses.count(502))
     judge("its answer says so", all(said == {"error": "unknown"} for status, said in found if status == 502))
     unknown = [it for it in world.lines() if it["what"] == "answered" and it.get("known") is False]
     same("the journal says so too", len(unknown), statuses.count(502))
     judge("most of them were done", statuses.count(200) > len(statuses) // 2, len(statuses))
+
+
+def asked(world: World, code: str) -> dict:
+    """Waits until an act is in the journal, while the office stands still, and a moment more, so that the office has it.
+    Returns its line."""
+    found: list[dict] = []
+    for _ in range(400):
+        found = [it for it in world.lines() if it["what"] == "asked" and it["acts"][0].get("code") == code]
+        if found:
+            break
+        time.sleep(0.05)
+    judge(f"{code} is in the journal before the office does it", found)
+    time.sleep(0.5)
+    return found[0] if found else {"line": 0}
+
+
+def answered(world: World, line: dict) -> list[dict]:
+    """Returns the lines of the answers to a request."""
+    return [it for it in world.lines() if it["what"] == "answered" and it["of"] == line["line"]]
+
+
+def had(world: World) -> None:
+    """An office is killed that has an act and does nothing with it: that is not sent to the next one."""
+    hold = {"act": "place-hold", "code": "HAD", "reason": "r"}
+    found: list = []
+    assert world.office is not None
+    world.office.send_signal(signal.SIGSTOP)
+    one = threading.Thread(target=lambda: found.append(world.act("legal", hold)))
+    one.start()
+    line = asked(world, "HAD")
+    world.stop_office()
+    world.start_office()
+    one.join()
+    same("an act that the office had is unknown", found, [(502, {"error": "unknown"})])
+    same("the journal says so", [(it["status"], it["known"]) for it in answered(world, line)], [(502, False)])
+    same("it was not sent again", world.act("legal", hold), (200, [{"done": True}]))
 
 
 def cut(world: World) -> None:
@@ -118,16 +184,16 @@ def cut(world: World) -> None:
 
 def of_the_gate(world: World) -> None:
     """While the gate stops and starts nobody is refused: what comes waits at the socket."""
-    clients = Clients(world)
-    for _ in range(ROUNDS):
-        time.sleep(0.3)
+    clients, long = Clients(world, 8), Long(world)
+    for _ in range(STOPS):
+        time.sleep(0.1)
         same("it ends well", world.stop_gate(), 0)
         world.start_gate()
     time.sleep(0.5)
-    found = clients.end()
-    statuses = [status for status, _ in found]
-    same("each request was done", set(statuses), {200})
-    judge("there were some", len(statuses) > 10, len(statuses))
+    refused, statuses = long.end(), [status for status, _ in clients.end()]
+    same("each request was done", Counter(statuses), {200: len(statuses)})
+    same("each long one was refused", Counter(refused), {400: len(refused)})
+    judge("there were some", len(statuses) > 10 and len(refused) > STOPS, (len(statuses), len(refused)))
     # an act that is under way as the end is asked for is done, and answered
     world.office.send_signal(signal.SIGSTOP)
     answers: list = []
@@ -147,6 +213,52 @@ def of_the_gate(world: World) -> None:
     world.start_gate()
 
 
+def accepted(world: World) -> None:
+    """Who was accepted at the very end is answered too: short requests, so that the end often meets one that begins."""
+    stop, found = threading.Event(), []
+
+    def ask() -> None:
+        while not stop.is_set():
+            found.append(world.ask("auditor", "GET", "/rights")[0])
+
+    threads = [threading.Thread(target=ask) for _ in range(3)]
+    for it in threads:
+        it.start()
+    for _ in range(4 * ROUNDS):
+        time.sleep(0.1)
+        world.stop_gate()
+        world.start_gate()
+    stop.set()
+    for it in threads:
+        it.join()
+    same("each short request was answered", set(found), {200})
+    judge("there were many", len(found) > 200, len(found))
+
+
+def away(world: World) -> None:
+    """An office that does not come back: however many wait, each is told after two minutes, and none of it is done."""
+    world.stop_office()
+    began, found = time.monotonic(), []
+    hold = {"act": "place-hold", "reason": "r"}
+
+    def wait(name: str, *act: dict) -> None:
+        answer = world.act(name, *act) if act else world.get(name, "/records/1")
+        found.append((answer, time.monotonic() - began))
+
+    threads = [threading.Thread(target=wait, args=it) for it in
+               (*(("legal", {**hold, "code": f"AWAY{it}"}) for it in range(3)), ("registry", {"act": "close-aggregation",
+                "aggregation": 1}), ("auditor",), ("department", {"act": "event", "record": 1, "occurred": today()}))]
+    for it in threads:
+        it.start()
+    for it in threads:
+        it.join()
+    same("each is told that nothing was done", [it for it, _ in found], [(503, {"error": "office"})] * len(threads))
+    judge("after two minutes", all(119 < seconds < 150 for _, seconds in found), [seconds for _, seconds in found])
+    world.start_office()
+    same("nothing was done", [world.act("legal", {**hold, "code": f"AWAY{it}"})[0] for it in range(3)], [200] * 3)
+    same("nor the rest", world.act("registry", {"act": "close-aggregation", "aggregation": 1}), (200, [{"done": True}]))
+
+
 def gone(world: World) -> None:
     """A client goes away while its act is at the office: a stop waits for the answer, and the journal has it."""
     world.office.send_signal(signal.SIGSTOP)
@@ -154,8 +266,7 @@ def gone(world: World) -> None:
     lines = {**HERE, "Office-Token": TOKEN, "Office-Name": "legal", "Content-Length": str(len(body))}
     head = "".join(f"{key}: {value}\r\n" for key, value in lines.items())
     link = world.connected(f"POST /acts HTTP/1.1\r\n{head}\r\n".encode() + body)
-    while not any(it["what"] == "asked" and it["acts"][0]["code"] == "GONE" for it in world.lines() if "acts" in it):
-        time.sleep(0.05)
+    line = asked(world, "GONE")
     link.close()
     time.sleep(0.5)
     world.gate.send_signal(signal.SIGTERM)
@@ -163,6 +274,6 @@ def gone(world: World) -> None:
     world.office.send_signal(signal.SIGCONT)
     same("the gate ends well", world.gate.wait(), 0)
     world.gate.stdout.close()
-    same("the journal has the answer", [world.last(it).get("answers") for it in ("answered",)], [[{"done": True}]])
-    same("and it is the end", world.lines()[-1]["what"], "closed")
+    same("the journal has the answer", [it.get("answers") for it in answered(world, line)], [[{"done": True}]])
+    same("and then the end", world.lines()[-1]["what"], "closed")
     world.start_gate()

@@ -9,7 +9,7 @@ import subprocess
 import time
 
 TOP = pathlib.Path(__file__).resolve().parents[3]
-OFFICE = os.environ.get("OFFICE") or str(TOP / "out/office")
+OFFICE = os.environ.get("OFFICE") or str(TOP / "crates/office/out/office")
 SOURCES = pathlib.Path(os.environ.get("GATE_SOURCES") or TOP / "service")
 GATE = SOURCES / "gate/office-gate"
 JOURNAL = SOURCES / "gate/office-journal"
@@ -133,13 +133,14 @@ class World:
         link.sendall(data)
         return link
 
-    def raw(self, data: bytes, half: bool = False) -> bytes:
-        """Sends bytes to the gate, and returns all that come back."""
+    def raw(self, data: bytes, half: bool = False, later: float = 0) -> bytes:
+        """Sends bytes to the gate, and returns all that come back. With `half` it says that no more come, perhaps later."""
         with socket.socket(socket.AF_UNIX, socket.SOCK_STREAM) as link:
             link.settimeout(300)
             link.connect(str(self.place))
             link.sendall(data)
             if half:
+                time.sleep(later)
                 link.shutdown(socket.SHUT_WR)
             found = b""
             try:
