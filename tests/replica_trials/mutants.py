@@ -152,8 +152,6 @@ MUTANTS = [
     Mutant("an office that hangs is not noticed", "guard.py", "            self.office.kill()\n", "            pass\n", "hanging"),
     Mutant("nobody asks an office that nobody uses", "guard.py", "                    self.service.ask_if_free(self.limit)\n",
            "                    pass\n", "hanging"),
-    Mutant("the program that comes to the name is run by a member of before", "program.py",
-           "[sys.executable, \"-I\", \"-S\", OPENED, str(os.getpid()), str(self.descriptor), self.path, *words]",
-           "[sys.executable, \"-I\", \"-S\", OPENED, str(os.getpid()), str(os.open(self.path, os.O_RDONLY)), self.path, *words]",
-           "replaced"),
+    Mutant("the program that comes to the name is run by a member of before", "program.py", "        return subprocess.Popen(\n",
+           "        self.descriptor = os.open(self.path, os.O_RDONLY)\n        return subprocess.Popen(\n", "replaced"),
 ]
