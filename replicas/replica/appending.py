@@ -8,6 +8,7 @@ import hashlib
 import json
 import threading
 import time
+from concurrent.futures import Future
 from typing import Callable
 
 from replica.arrived import Arrived
@@ -21,22 +22,25 @@ MOST, LONGEST = 60, 1_048_576
 MOST_WAITING, MOST_BYTES, WAIT_SECONDS = 2000, 134_217_728, 30
 """requests, bytes of their bodies, and seconds, until one that was not tried is `busy`"""
 AGAIN_SECONDS = 0.1
+LONGEST_TURN = 0.2
+"""seconds for which another member is given way, at most"""
 
 
 class Waiting:
-    """A request that goes into the log, and what became of it, once `done` is set."""
+    """A request that goes into the log, and what became of it, once that is told."""
 
     def __init__(self, request: Request, entry: Entry) -> None:
         self.request, self.entry = request, entry
-        self.appended: Appended | None = None
-        self.done = threading.Event()
+        self.told: Future[Appended] = Future()
         self.is_clear = True
         """no transaction that had it may still be done"""
         self.began = time.monotonic()
 
     def end(self, appended: Appended) -> None:
-        self.appended = appended
-        self.done.set()
+        self.told.set_result(appended)
+
+    def has_ended(self) -> bool:
+        return self.told.done()
 
     def fail(self, error: NotTaken | Unclear) -> bool:
         """Whether it has to end, since no try may follow: then it has."""
@@ -45,13 +49,13 @@ class Waiting:
             self.end(Appended(None, getattr(error, "name", "quorum")))
         elif time.monotonic() - self.began > 2 * CALL_SECONDS:
             self.end(Appended(None, "unknown"))
-        return self.done.is_set()
+        return self.has_ended()
 
     def is_late(self) -> bool:
         """Whether it has waited too long for its turn: then it has ended, and is surely not in the log."""
-        if self.is_clear and time.monotonic() - self.began > WAIT_SECONDS and not self.done.is_set():
+        if self.is_clear and time.monotonic() - self.began > WAIT_SECONDS and not self.has_ended():
             self.end(Appended(None, "busy"))
-        return self.done.is_set()
+        return self.has_ended()
 
 
 class Appender:
@@ -70,8 +74,8 @@ class Appender:
 
     # ---- for clients
 
-    def append(self, key: str, kind: str, body: bytes) -> Appended:
-        """Puts a request at the end, once for its key, however often it is called.
+    def append(self, key: str, kind: str, body: bytes) -> Future[Appended]:
+        """Puts a request at the end, once for its key, however often it is called, and tells what became of it.
 
         An error of the name `unknown` says that it may be in the log, each other that this call put nothing there.
         """
@@ -81,12 +85,11 @@ class Appender:
         waiting = Waiting(request, Entry(0, key, kind, self.log.program, body))
         with self.changed:
             if len(self.queue) >= MOST_WAITING or sum(len(it.entry.body) for it in self.queue) > MOST_BYTES:
-                return Appended(None, "busy")
-            self.queue.append(waiting)
-            self.changed.notify_all()
-        waiting.done.wait()
-        assert waiting.appended is not None
-        return waiting.appended
+                waiting.end(Appended(None, "busy"))
+            else:
+                self.queue.append(waiting)
+                self.changed.notify_all()
+        return waiting.told
 
     def is_idle(self) -> bool:
         return not self.queue
@@ -104,7 +107,7 @@ class Appender:
             except Exception as error:  # without this thread no act would be answered any more
                 say(f"not appended: {error!r}")
                 for it in group:
-                    if not it.done.is_set():
+                    if not it.has_ended():
                         it.end(Appended(None, "unknown"))
             with self.changed:
                 self.queue = [it for it in self.queue if not it.is_late()]
@@ -124,7 +127,7 @@ class Appender:
 
     def append_all(self, group: list[Waiting]) -> None:
         """One transaction. Those that are still not in the log afterwards go with the next one."""
-        before = self.position()
+        before, began = self.position(), time.monotonic()
         try:
             if self.log.is_full and all(it.is_clear for it in group):
                 raise NotTaken("etcd is nearly full", "full")
@@ -138,6 +141,14 @@ class Appender:
         self.tell(first, before)
         for number, it in enumerate(group):
             it.end(Appended(first + number))
+        if self.log.is_awaited:
+            self.give_way(2 * (time.monotonic() - began))
+
+    def give_way(self, seconds: float) -> None:
+        """Lets another member append. Whoever is next to etcd's leader would win each time otherwise."""
+        mine, until = self.log.last, time.monotonic() + min(seconds, LONGEST_TURN)
+        while self.log.last == mine and time.monotonic() < until:
+            time.sleep(0.001)
 
     def failed(self, group: list[Waiting], error: NotTaken | Unclear) -> None:
         """Ends those of which no further try may follow; the others are tried again after a moment."""

@@ -5,20 +5,24 @@ own office, a POST as PUT, which the office takes nowhere: so it changes nothing
 """
 from __future__ import annotations
 
-import http.server
+import asyncio
+import contextlib
 import json
 import re
 import socket
-import socketserver
 import uuid
-from typing import Any
 
 from replica import metrics
+from replica.errors import say
+from replica.head import Head
 from replica.service import ANY, NEWEST, Answer, Service
 
 KINDS = {"/acts": "acts", "/run/resume": "resume"}
-LONGEST_BODY = 1_048_576
+READINGS = ("GET", "HEAD", "OPTIONS")
+LONGEST_HEAD, LONGEST_BODY = 16_384, 1_048_576
 DRAINED = 262_144
+SILENT_SECONDS, DRAIN_SECONDS = 60, 0.1
+BACKLOG = 1024
 STATUSES = {"length": "411 Length Required", "digits": "400 Bad Request",
             "size": "413 Payload Too Large", "coding": "501 Not Implemented",
             "body": "400 Bad Request", "header": "400 Bad Request", "head": "400 Bad Request",
@@ -26,6 +30,10 @@ STATUSES = {"length": "411 Length Required", "digits": "400 Bad Request",
             "after": "412 Precondition Failed"}
 # the office's own names, where this module needs two for two statuses
 NAMES = {"digits": "length"}
+
+
+class Refused(Exception):
+    """A request that is neither an entry nor a reading: the name of its error."""
 
 
 def message(status: str, told: object, kind: str = "application/json") -> bytes:
@@ -41,25 +49,75 @@ def error_message(name: str) -> bytes:
     return message(STATUSES.get(name, "503 Service Unavailable"), {"error": NAMES.get(name, name)})
 
 
-class Handler(http.server.BaseHTTPRequestHandler):
+def length_of(head: Head) -> int:
+    """The bytes of the body of some acts. Refused where the head does not say it as the office wants it."""
+    sizes = head.lines("Content-Length")
+    if head.lines("Transfer-Encoding"):
+        raise Refused("coding")
+    if not sizes:
+        raise Refused("length")
+    if len(sizes) != 1 or not re.fullmatch("[0-9]{1,19}", sizes[0].strip(" \t")):
+        raise Refused("digits")
+    if int(sizes[0]) > LONGEST_BODY:
+        raise Refused("size")
+    return int(sizes[0])
+
+
+class Connection:
     """One connection: one request, one answer."""
 
-    protocol_version = "HTTP/1.1"
-    timeout = 60
-    server: Server
+    def __init__(self, service: Service, reader: asyncio.StreamReader, writer: asyncio.StreamWriter) -> None:
+        self.service, self.reader, self.writer = service, reader, writer
+        writer.transport.set_write_buffer_limits(0)
+        self.key: str | None = None
+        """what the request is known by, once it is one for the log"""
 
-    def log_message(self, format: str, *args: Any) -> None:
-        """Requests are in the log, and nginx writes who made them."""
+    async def run(self) -> None:
+        """Reads the request, answers it, and reads what the client still sends, so that its answer is not lost."""
+        try:
+            answer = await self.answer(await self.head())
+        except Refused as error:
+            answer = Answer(None, str(error))
+        self.writer.write(self.written(answer))
+        self.writer.write_eof()
+        if self.writer.transport.get_write_buffer_size() > 0:
+            async with asyncio.timeout(SILENT_SECONDS):
+                await self.writer.drain()
+        await self.leave()
 
-    def send_error(self, code: int, message: str | None = None,
-                   explain: str | None = None) -> None:
-        """What the head's reader refuses: a strange method is a reading that fails."""
-        if code == 501:
-            self.pass_on("PUT")
-        else:
-            self.answer(Answer(None, "head"))
+    async def head(self) -> Head:
+        """The head of the request. ConnectionError where nothing came."""
+        try:
+            async with asyncio.timeout(SILENT_SECONDS):
+                head = Head(await self.reader.readuntil(b"\r\n\r\n"))
+        except asyncio.IncompleteReadError as error:
+            raise Refused("head") if error.partial else ConnectionError("nothing came") from error
+        except asyncio.LimitOverrunError as error:
+            raise Refused("head") from error
+        if not head.is_whole:
+            raise Refused("head")
+        self.writer.write(head.told)
+        return head
 
-    def answer(self, answer: Answer, key: str | None = None) -> None:
+    async def body(self, size: int) -> bytes:
+        """The body of the request. No act of it is looked at."""
+        try:
+            async with asyncio.timeout(SILENT_SECONDS):
+                return await self.reader.readexactly(size)
+        except asyncio.IncompleteReadError as error:
+            raise Refused("body") from error
+
+    async def leave(self) -> None:
+        left = DRAINED
+        with contextlib.suppress(TimeoutError):
+            while left > 0:
+                async with asyncio.timeout(DRAIN_SECONDS):
+                    part = await self.reader.read(65536)
+                if not part:
+                    return
+                left -= len(part)
+
+    def written(self, answer: Answer) -> bytes:
         """The office's bytes, with some lines more in their head, or an error."""
         content = answer.content
         if isinstance(content, str):
@@ -67,111 +125,68 @@ class Handler(http.server.BaseHTTPRequestHandler):
         more = b""
         if answer.position is not None:
             more += b"Office-Position: %d\r\n" % answer.position
-        more += b"Office-Age: %s\r\n" % (answer.age or self.server.service.age()).encode()
-        if key is not None:
-            more += b"Idempotency-Key: %s\r\n" % key.encode()
-        self.close_connection = True
-        try:
-            self.wfile.write(content.replace(b"\r\n", b"\r\n" + more, 1))
-            self.drain()
-        except OSError:
-            pass  # the client has gone; by its key it will be answered
+        more += b"Office-Age: %s\r\n" % (answer.age or self.service.age()).encode()
+        if self.key is not None:
+            more += b"Idempotency-Key: %s\r\n" % self.key.encode()
+        return content.replace(b"\r\n", b"\r\n" + more, 1)
 
-    def drain(self) -> None:
-        """Reads what the client still sends, so that its answer is not lost by a reset."""
-        self.connection.shutdown(socket.SHUT_WR)
-        self.connection.settimeout(0.1)
-        left = DRAINED
-        while left > 0 and (part := self.connection.recv(65536)):
-            left -= len(part)
+    async def answer(self, head: Head) -> Answer:
+        if head.command == "POST" and head.target in KINDS:
+            return await self.post(head)
+        if head.command == "GET" and head.target == "/replica":
+            return self.state()
+        if head.command == "GET" and head.target == "/metrics":
+            return Answer(None, message("200 OK", metrics.text(self.service), "text/plain; version=0.0.4"))
+        return await self.read(head)
 
-    def target(self) -> str:
-        """The path as it came: `self.path` has fewer slashes."""
-        return self.requestline.split()[1]
+    async def post(self, head: Head) -> Answer:
+        key = head.line("Idempotency-Key") or uuid.uuid4().hex
+        if not head.has_host():
+            raise Refused("host")
+        if not re.fullmatch("[A-Za-z0-9._~-]{1,64}", key):
+            raise Refused("header")
+        body = await self.body(length_of(head)) if head.target == "/acts" else b""
+        self.key = key
+        return await self.service.post(key, KINDS[head.target], body)
 
-    def has_host(self) -> bool:
-        lines: list[str] = self.headers.get_all("Host", [])
-        return self.request_version == "HTTP/1.0" or len(lines) == 1
-
-    def do_POST(self) -> None:
-        path = self.target()
-        if path not in KINDS:
-            return self.pass_on("PUT")
-        key = self.headers.get("Idempotency-Key") or uuid.uuid4().hex
-        fault, body = (None, b"") if self.has_host() else ("host", b"")
-        if fault is None and not re.fullmatch("[A-Za-z0-9._~-]{1,64}", key):
-            fault = "header"
-        if fault is None and path == "/acts":
-            fault, body = self.body()
-        if fault is not None:
-            return self.answer(Answer(None, fault))
-        self.answer(self.server.service.post(key, KINDS[path], body), key)
-
-    def body(self) -> tuple[str | None, bytes]:
-        """What is wrong with the body, if anything is, and the body. No act of it is looked at."""
-        sizes: list[str] = self.headers.get_all("Content-Length", [])
-        if self.headers.get("Transfer-Encoding") is not None:
-            return "coding", b""
-        if not sizes:
-            return "length", b""
-        if len(sizes) != 1 or not re.fullmatch("[0-9]{1,19}", sizes[0].strip(" \t")):
-            return "digits", b""
-        size = int(sizes[0])
-        if size > LONGEST_BODY:
-            return "size", b""
-        body = self.rfile.read(size)
-        return (None if len(body) == size else "body"), body
-
-    def pass_on(self, method: str) -> None:
+    async def read(self, head: Head) -> Answer:
         """A reading, or what the office refuses."""
-        if not self.has_host():
-            return self.answer(Answer(None, "host"))
-        after = self.headers.get("Office-After", "0")
-        wanted = self.headers.get("Office-Read")
+        told, wanted = head.line("Office-After"), head.line("Office-Read")
+        after = "0" if told is None else told
+        if not head.has_host():
+            raise Refused("host")
         if not re.fullmatch("[0-9]{1,15}", after) or wanted not in (None, NEWEST, ANY):
-            return self.answer(Answer(None, "header"))
-        self.answer(self.server.service.read(method, self.target(), wanted, int(after)))
+            raise Refused("header")
+        method = head.command if head.command in READINGS else "PUT"
+        return await self.service.read(method, head.target, wanted, int(after))
 
-    def do_GET(self) -> None:
-        if self.target() == "/replica":
-            return self.tell_state()
-        if self.target() == "/metrics":
-            return self.answer(Answer(None, message("200 OK", metrics.text(self.server.service),
-                                                    "text/plain; version=0.0.4")))
-        self.pass_on("GET")
-
-    def tell_state(self) -> None:
+    def state(self) -> Answer:
         """Of this member, with status 503 where it does not answer plain readings."""
-        state = self.server.service.state()
-        status = "200 OK" if state["answers"] else "503 Service Unavailable"
-        self.answer(Answer(None, message(status, state)))
-
-    def do_HEAD(self) -> None:
-        self.pass_on("HEAD")
-
-    def do_OPTIONS(self) -> None:
-        self.pass_on("OPTIONS")
-
-    def do_PUT(self) -> None:
-        self.pass_on("PUT")
-
-    do_DELETE = do_PATCH = do_PUT
+        state = self.service.state()
+        return Answer(None, message("200 OK" if state["answers"] else "503 Service Unavailable", state))
 
 
-class Server(http.server.ThreadingHTTPServer):
+class Clients:
     """The clients' door of one member, on 127.0.0.1."""
 
-    request_queue_size = 256
-    daemon_threads = True
-
     def __init__(self, port: int, service: Service) -> None:
-        self.service = service
-        super().__init__(("127.0.0.1", port), Handler)
+        """OSError where the port is taken."""
+        self.service, self.port = service, socket.create_server(("127.0.0.1", port), backlog=BACKLOG)
 
-    def server_bind(self) -> None:
-        """Without asking for a name of the address."""
-        socketserver.TCPServer.server_bind(self)
-        self.server_name, self.server_port = "localhost", self.server_address[1]
+    def run(self) -> None:
+        """Answers whoever comes. Never returns."""
+        asyncio.run(self.serve())
 
-    def handle_error(self, request: Any, client_address: Any) -> None:
-        """A client that went away is no fault of the member."""
+    async def serve(self) -> None:
+        server = await asyncio.start_server(self.connected, sock=self.port, limit=LONGEST_HEAD, backlog=BACKLOG)
+        await server.serve_forever()
+
+    async def connected(self, reader: asyncio.StreamReader, writer: asyncio.StreamWriter) -> None:
+        try:
+            await Connection(self.service, reader, writer).run()
+        except OSError:  # the client has gone, or is silent: by its key it will be answered
+            writer.transport.abort()
+        except Exception as error:  # somebody has to hear of it
+            say(f"a request has no answer: {error!r}")
+        finally:
+            writer.close()

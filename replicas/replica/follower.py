@@ -15,6 +15,7 @@ import sqlite3
 import subprocess
 import threading
 import time
+from concurrent.futures import Future
 from typing import Iterator
 
 from replica.appending import Appender
@@ -296,7 +297,7 @@ class Follower:
                 return False
             if self.position <= max(self.snapshots.positions(), default=0):
                 if self.regular.may_ask() and self.appender.is_idle():
-                    self.appender.append(f"snapshot-{self.settings.name}-{self.position}", "acts", NO_ACTS)
+                    self.appender.append(f"snapshot-{self.settings.name}-{self.position}", "acts", NO_ACTS).result()
                 return False
         self.wants_snapshot = False
         self.regular.taken()
@@ -375,13 +376,18 @@ class Follower:
                 say(f"{'reads the state at' if is_before else 'no longer reads at'} {self.position}")
             self.moved.wake()
 
-    def reaches(self, position: int, seconds: float, reading: bool = False) -> bool:
-        """Waits until this member answers, or at least readings, and has done the entry at a position."""
+    def reached(self, position: int, reading: bool = False) -> Future[bool]:
+        """Is told True once this member answers, or at least readings, and has done the entry at a position."""
         return self.moved.until(
-            lambda: self.position >= position and (self.is_reading if reading else self.is_answering), seconds)
+            lambda: self.position >= position and (self.is_reading if reading else self.is_answering))
+
+    def newest_answer(self, position: int, key: str) -> bytes | None:
+        """What one of the last entries was answered here. It waits for nothing."""
+        memo = self.memo
+        return None if memo is None else memo.newest_answer(position, key)
 
     def answer(self, position: int, key: str) -> bytes | None:
-        """What the entry was answered here, if that is remembered."""
+        """What the entry was answered here, if that is remembered. It may wait until a copy is made."""
         memo = self.memo
         try:
             return None if memo is None else memo.answer(position, key)

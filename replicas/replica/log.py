@@ -12,6 +12,7 @@ Below /office/LOG/ etcd has
     blocked/NAME        the entry that a member cannot do, and has promised not to do
     refused/POSITION    the entry by which this one was refused: nobody does it
     chain/POSITION/NAME a hash over all answers of a member up to there
+    waits/NAME          a member that came too late for the end that it knew, since somebody appended last
 
 What is dropped is compacted too, so that etcd gives no earlier revision of it either.
 """
@@ -74,6 +75,8 @@ class Log:
         self.quota = settings.etcd_quota
         self.last, self.is_full = 0, False
         """where the log ends, as far as this member knows"""
+        self.is_awaited = False
+        """another member waits for its turn, as this one appended last"""
         self.refused: set[int] = set()
         """positions of entries that are known to be refused"""
         self.machine, self.dropped = machine_of(settings.folder), 0
@@ -93,18 +96,19 @@ class Log:
         """One transaction: the requests have the next positions, and this gives the first of them.
 
         Otherwise none of them is there now by this call. If the log ends where this member thought, it gives the
-        positions and digests of those whose keys are in it; else it knows the end now. One thread of a member appends
-        at a time, and no key is there twice.
+        positions and digests of those whose keys are in it; else it knows the end now, and the others know that it
+        waits. One thread of a member appends at a time, and no key is there twice.
         """
-        before, tail = self.last, self.top + "tail"
+        before, tail, waits = self.last, self.top + "tail", self.top + "waits/"
         keys = [self.top + "keys/" + it.key for it in requests]
         last = before + len(requests)
-        puts = [put(tail, str(last))]
+        puts = [get(waits, self.top + "waits0"), drop(waits, self.top + "waits0"), put(tail, str(last))]
         for position, (it, key) in enumerate(zip(requests, keys), before + 1):
             puts += [put(self.entry_key(position), it.value), put(key, f"{position} {it.digest}")]
-        done, rows = self.etcd.transact([has(tail, str(before)), *map(absent, keys)], puts, [get(tail)])
+        done, rows = self.etcd.transact([has(tail, str(before)), *map(absent, keys)], puts,
+                                        [get(tail), put(waits + self.member, "")])
         if done:
-            self.last = max(self.last, last)
+            self.last, self.is_awaited = max(self.last, last), any(key != waits + self.member for key, _ in rows[0])
             return before + 1, {}
         if not rows[0]:
             raise NotTaken(f"there is no log {self.top} in etcd")

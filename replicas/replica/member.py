@@ -16,7 +16,7 @@ import threading
 from typing import Callable
 
 from replica.appending import Appender
-from replica.clients import Server
+from replica.clients import Clients
 from replica.errors import Halt, say
 from replica.etcd import Etcd
 from replica.follower import Follower
@@ -63,12 +63,12 @@ def start(settings: Settings) -> int:
     service = Service(log, follower, freshness)
     try:
         lock = locked(settings)
-        server = Server(settings.listen, service)
+        clients = Clients(settings.listen, service)
     except OSError as error:
         say(f"the folder {settings.folder} or the port {settings.listen} is taken: {error}")
         return 3
     guard = Guard(service, settings.reading_limit)
-    threads: list[Callable[[], None]] = [server.serve_forever, freshness.run, guard.run, follower.appender.run,
+    threads: list[Callable[[], None]] = [clients.run, freshness.run, guard.run, follower.appender.run,
                                          lambda: log.watch(follower.appender.arrived, follower.changed)]
     for thread in threads:
         threading.Thread(target=thread, daemon=True).start()

@@ -79,11 +79,13 @@ class Memo:
             self.newest = {}
         self.newest.update((place, (key, answer)) for place, key, answer in answers)
 
+    def newest_answer(self, position: int, key: str) -> bytes | None:
+        """What the entry with this key at this position was answered, if it is one of the last."""
+        newest = self.newest.get(position)
+        return None if newest is None or newest[0] != key else newest[1]
+
     def answer(self, position: int, key: str) -> bytes | None:
         """What the entry with this key at this position was answered, if that is remembered."""
-        newest = self.newest.get(position)
-        if newest is not None and newest[0] == key:
-            return newest[1]
         with self.lock:
             row = self.rows.execute("SELECT answer FROM answers WHERE position=? AND key=?",
                                     (position, key)).fetchone()

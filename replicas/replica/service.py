@@ -1,9 +1,15 @@
 """What clients are answered: a request becomes an entry and waits for its answer; a reading waits
-for the position that it asks for, and is not given where it may be too old."""
+for the position that it asks for, and is not given where it may be too old.
+
+Requests are taken by one thread, which waits for none of them (`asyncio`). Whatever may wait otherwise has threads.
+"""
 from __future__ import annotations
 
+import asyncio
+import functools
 import time
-from typing import NamedTuple
+from concurrent.futures import Future, ThreadPoolExecutor
+from typing import Callable, NamedTuple, TypeVar
 
 from replica.errors import NotTaken, Unclear, say
 from replica.follower import Follower
@@ -13,8 +19,13 @@ from replica.office import status_of
 
 WAIT_SECONDS = 30
 """of a client, for its turn and for its entry"""
+MOST_AT_ONCE = 1000
+"""readings; those beyond wait for one that is answered"""
 NEWEST, ANY = "newest", "any"
 """what a reading may ask for: all that was answered before it, or whatever this machine has"""
+
+
+Told = TypeVar("Told")
 
 
 class Answer(NamedTuple):
@@ -26,14 +37,30 @@ class Answer(NamedTuple):
     age: str | None = None
 
 
+async def is_told(told: Future[bool], seconds: float) -> bool:
+    """Whether it is told in these seconds. Afterwards nobody waits for it."""
+    if told.done():
+        return told.result()
+    try:
+        async with asyncio.timeout(seconds):
+            return await asyncio.wrap_future(told)
+    except TimeoutError:
+        return False
+
+
 class Service:
-    """The answers of one member, for any number of threads."""
+    """The answers of one member. `post` and `read` are for the thread that takes requests, all else for any."""
 
     def __init__(self, log: Log, follower: Follower, freshness: Freshness) -> None:
         self.log, self.follower, self.freshness = log, follower, freshness
         self.limit: float = follower.settings.reading_limit
+        self.threads = ThreadPoolExecutor(MOST_AT_ONCE)
 
-    def post(self, key: str, kind: str, body: bytes) -> Answer:
+    async def in_thread(self, work: Callable[[], Told]) -> Told:
+        """What it gives, without holding up other requests."""
+        return await asyncio.get_running_loop().run_in_executor(self.threads, work)
+
+    async def post(self, key: str, kind: str, body: bytes) -> Answer:
         """The answer to a request that may change the office.
 
         `recovering`, `busy`, `quorum`, `full`, `key`: this call put nothing into the log.
@@ -42,15 +69,18 @@ class Service:
         """
         if not self.follower.is_answering:
             return Answer(None, "recovering")
-        appended = self.follower.appender.append(key, kind, body)
-        if appended.position is None:
+        appended = await asyncio.wrap_future(self.follower.appender.append(key, kind, body))
+        position = appended.position
+        if position is None:
             return Answer(None, appended.error or "unknown")
-        if not self.follower.reaches(appended.position, WAIT_SECONDS):
-            return Answer(appended.position, "unknown")
-        answer = self.follower.answer(appended.position, key)
-        return Answer(appended.position, "unknown" if answer is None else answer)
+        if not await is_told(self.follower.reached(position), WAIT_SECONDS):
+            return Answer(position, "unknown")
+        answer = self.follower.newest_answer(position, key)
+        if answer is None:
+            answer = await self.in_thread(functools.partial(self.follower.answer, position, key))
+        return Answer(position, "unknown" if answer is None else answer)
 
-    def read(self, method: str, path: str, wanted: str | None, after: int) -> Answer:
+    async def read(self, method: str, path: str, wanted: str | None, after: int) -> Answer:
         """The answer to a request that changes nothing, from the own office.
 
         It is at least at the position `after`; with NEWEST at least where the log ended as the
@@ -59,15 +89,19 @@ class Service:
         """
         if wanted == NEWEST:
             try:
-                after = max(after, self.freshness.confirm())
+                after = max(after, await self.in_thread(self.freshness.confirm))
             except (NotTaken, Unclear):
                 return Answer(None, "quorum")
         if not self.follower.is_reading:
             return Answer(None, "recovering")
-        if after > self.follower.position and self.ends_before(after):
+        if after > self.follower.position and await self.in_thread(lambda: self.ends_before(after)):
             return Answer(None, "after")
-        if after > 0 and not self.follower.reaches(after, WAIT_SECONDS, reading=True):
+        if after > 0 and not await is_told(self.follower.reached(after, reading=True), WAIT_SECONDS):
             return Answer(None, "behind" if self.follower.is_reading else "recovering")
+        return await self.in_thread(lambda: self.asked_in_turn(method, path, wanted))
+
+    def asked_in_turn(self, method: str, path: str, wanted: str | None) -> Answer:
+        """What the office answers, once nobody else talks with it."""
         if not self.follower.office.lock.acquire(timeout=self.limit):
             return Answer(None, "busy")
         try:

@@ -1,46 +1,42 @@
-"""Waiting until a member is somewhere: each thread is woken once, when what it waits for is so."""
+"""Waiting until a member is somewhere: whoever waits is told once, when what it waits for is so."""
 from __future__ import annotations
 
 import threading
-from typing import Callable
+from concurrent.futures import Future
+from typing import Callable, NamedTuple
 
 
-class Wait:
-    """A thread that waits."""
+class Wait(NamedTuple):
+    """What somebody waits for, and how that is told."""
 
-    def __init__(self, is_so: Callable[[], bool]) -> None:
-        self.is_so, self.woken = is_so, threading.Lock()
-        self.woken.acquire()
+    is_so: Callable[[], bool]
+    told: Future[bool]
 
 
 class Waits:
-    """Threads that wait. What they wait for changes only under `lock`, and `wake` is called within it."""
+    """Those who wait. What they wait for changes only under `lock`, and `wake` is called within it."""
 
     def __init__(self) -> None:
         self.lock = threading.RLock()
         self.waiting: list[Wait] = []
 
     def wake(self) -> None:
-        """Wakes those for whom it is so now."""
+        """Tells those for whom it is so now, and forgets those who have given up."""
         left = []
         for it in self.waiting:
             if it.is_so():
-                it.woken.release()
-            else:
+                if it.told.set_running_or_notify_cancel():
+                    it.told.set_result(True)
+            elif not it.told.cancelled():
                 left.append(it)
         self.waiting = left
 
-    def until(self, is_so: Callable[[], bool], seconds: float) -> bool:
-        """Waits until it is so. False: it was not so in these seconds."""
+    def until(self, is_so: Callable[[], bool]) -> Future[bool]:
+        """Is told True once it is so. Whoever gives up cancels it."""
+        mine = Wait(is_so, Future())
         with self.lock:
             if is_so():
-                return True
-            mine = Wait(is_so)
-            self.waiting.append(mine)
-        if mine.woken.acquire(timeout=seconds):
-            return True
-        with self.lock:
-            if mine not in self.waiting:
-                return True
-            self.waiting.remove(mine)
-            return False
+                mine.told.set_result(True)
+            else:
+                self.waiting.append(mine)
+        return mine.told

@@ -29,7 +29,7 @@ MUTANTS = [
     Mutant("keys are put into no transaction", "log.py",
            "puts += [put(self.entry_key(position), it.value), put(key, f\"{position} {it.digest}\")]",
            "puts += [put(self.entry_key(position), it.value)]", "other_body"),
-    Mutant("the client's key is ignored", "clients.py", 'key = self.headers.get("Idempotency-Key") or uuid.uuid4().hex',
+    Mutant("the client's key is ignored", "clients.py", 'key = head.line("Idempotency-Key") or uuid.uuid4().hex',
            "key = uuid.uuid4().hex", "other_body"),
     Mutant("another body with a known key gets the first answer", "appending.py",
            'if digest == it.request.digest else Appended(None, "key"))', ")", "other_body"),
@@ -114,11 +114,11 @@ MUTANTS = [
            "            self.is_split = len(set(chains)) > 1\n", "            self.is_split = False\n", "in_question"),
     # ---- readings
     Mutant("`Office-After` is ignored", "service.py",
-           "        if after > 0 and not self.follower.reaches(after, WAIT_SECONDS, reading=True):\n", "        if False:\n", "together"),
-    Mutant("the newest is what this machine has", "service.py", "after = max(after, self.freshness.confirm())",
+           "        if after > 0 and not await is_told(self.follower.reached(after, reading=True), WAIT_SECONDS):\n", "        if False:\n", "together"),
+    Mutant("the newest is what this machine has", "service.py", "after = max(after, await self.in_thread(self.freshness.confirm))",
            "after = max(after, self.follower.position)", "together"),
     Mutant("the newest is where the log ended when it was last asked for", "service.py",
-           "after = max(after, self.freshness.confirm())", "after = max(after, self.freshness.tail)", "together"),
+           "after = max(after, await self.in_thread(self.freshness.confirm))", "after = max(after, self.freshness.tail)", "together"),
     Mutant("the office is read without its lock: a state has the position of the one before", "service.py",
            "        if not self.follower.office.lock.acquire(timeout=self.limit):\n            return Answer(None, \"busy\")\n"
            "        try:\n            return self.asked(method, path, wanted != ANY, self.limit)\n        finally:\n"

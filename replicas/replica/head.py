@@ -1,0 +1,46 @@
+"""The head of a request, as the server of Python's library reads it."""
+from __future__ import annotations
+
+import http.server
+import io
+from typing import Any
+
+
+class Head(http.server.BaseHTTPRequestHandler):
+    """A head that came whole: its method (`command`), its target and its lines."""
+
+    protocol_version = "HTTP/1.1"
+
+    def __init__(self, raw: bytes) -> None:
+        self.rfile = io.BytesIO(raw)
+        self.written = self.wfile = io.BytesIO()
+        self.raw_requestline = self.rfile.readline()
+        self.is_whole = self.parse_request()
+
+    def send_error(self, code: int, message: str | None = None, explain: str | None = None) -> None:
+        """Nothing: whoever asks for the head answers."""
+
+    def log_request(self, code: Any = "-", size: Any = "-") -> None:
+        """Requests are in the log, and nginx writes who made them."""
+
+    @property
+    def told(self) -> bytes:
+        """What the client is told before its body comes, if it waits for that."""
+        return self.written.getvalue()
+
+    @property
+    def target(self) -> str:
+        """The path as it came: `self.path` has fewer slashes."""
+        return self.requestline.split()[1]
+
+    def lines(self, name: str) -> list[str]:
+        found: list[str] = self.headers.get_all(name, [])
+        return found
+
+    def line(self, name: str) -> str | None:
+        """The first of these lines."""
+        found: str | None = self.headers.get(name)
+        return found
+
+    def has_host(self) -> bool:
+        return self.request_version == "HTTP/1.0" or len(self.lines("Host")) == 1
