@@ -86,15 +86,18 @@ class Connection:
         await self.leave()
 
     async def head(self) -> Head:
-        """The head of the request. ConnectionError where nothing came."""
+        """The head of the request, to its first empty line. ConnectionError where nothing came."""
+        raw = b""
         try:
             async with asyncio.timeout(SILENT_SECONDS):
-                head = Head(await self.reader.readuntil(b"\r\n\r\n"))
+                while not raw.endswith((b"\n\n", b"\n\r\n")) and len(raw) <= LONGEST_HEAD:
+                    raw += await self.reader.readuntil(b"\n")
         except asyncio.IncompleteReadError as error:
-            raise Refused("head") if error.partial else ConnectionError("nothing came") from error
+            raise Refused("head") if raw or error.partial else ConnectionError("nothing came") from error
         except asyncio.LimitOverrunError as error:
             raise Refused("head") from error
-        if not head.is_whole:
+        head = Head(raw)
+        if len(raw) > LONGEST_HEAD or not head.is_whole:
             raise Refused("head")
         self.writer.write(head.told)
         return head

@@ -1,21 +1,31 @@
-"""The head of a request, as the server of Python's library reads it."""
+"""The head of a request, as the server of Python's library reads it, and no head where the office finds none."""
 from __future__ import annotations
 
 import http.server
 import io
+import re
 from typing import Any
+
+MOST_LINES = 64
+STRANGE = re.compile(rb"\n[ \t]|[\x00-\x08\x0b\x0c\x0e-\x1f\x7f]|\r[^\n]")
+"""a folded line, and bytes that are in no head"""
 
 
 class Head(http.server.BaseHTTPRequestHandler):
-    """A head that came whole: its method (`command`), its target and its lines."""
+    """A head that came to its end: its method (`command`), its target and its lines."""
 
     protocol_version = "HTTP/1.1"
 
     def __init__(self, raw: bytes) -> None:
-        self.rfile = io.BytesIO(raw)
+        self.rfile = io.BytesIO(raw.lstrip(b"\r\n"))
         self.written = self.wfile = io.BytesIO()
         self.raw_requestline = self.rfile.readline()
-        self.is_whole = self.parse_request()
+        self.is_whole = self.parse_request() and self.is_strict(raw)
+
+    def is_strict(self, raw: bytes) -> bool:
+        """Whether the office would take these bytes for a head too."""
+        return (len(self.requestline.split(" ")) == 3 and not self.headers.defects and len(self.headers) <= MOST_LINES
+                and STRANGE.search(raw) is None)
 
     def send_error(self, code: int, message: str | None = None, explain: str | None = None) -> None:
         """Nothing: whoever asks for the head answers."""

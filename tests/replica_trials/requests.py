@@ -4,6 +4,8 @@ from __future__ import annotations
 import json
 import pathlib
 import random
+import re
+import socket
 import subprocess
 import sys
 import time
@@ -11,8 +13,9 @@ from typing import Any
 
 from replica_trials.acts import BEGIN, NOT_ACTS
 from replica_trials.checks import Bare
-from replica_trials.cluster import REPLICAS, Cluster, Reply, ask
+from replica_trials.cluster import REPLICAS, Cluster, Place, Reply, ask
 from replica_trials.judging import judge
+from replica_trials.networks import socket_in
 from replica_trials.posting import post, posted, record
 
 Case = tuple[str, str, bytes | None, dict[str, str]]
@@ -31,6 +34,26 @@ CASES: list[Case] = [
     ("GET", "/run/resume", None, {}), ("OPTIONS", "/acts", None, {}), ("PATCH", "/acts", None, {}),
     ("HEAD", "/records/1", None, {}), ("FETCH", "/acts", None, {}), ("POST", "/acts", b"[]", {})]
 CASES += [("POST", "/acts", body, {}) for body in NOT_ACTS]
+
+
+HEAD = b"GET /records/1 HTTP/1.1\r\nHost: trial\r\n"
+# bytes of a connection, before its end
+RAW = [
+    HEAD + b"\r\n", HEAD.replace(b"\r", b"") + b"\n", b"\r\n" + HEAD + b"\r\n", HEAD, HEAD[:20], b"GET",
+    HEAD + b"Host: other\r\n\r\n", b"GET /records/1 HTTP/1.1\r\n\r\n", b"GET /records/1 HTTP/1.0\r\n\r\n",
+    HEAD.replace(b"1.1", b"2.0") + b"\r\n", b"GET /records/1\r\n\r\n", b"\x00\x01\r\n\r\n", HEAD + b"a b\r\n\r\n",
+    HEAD + b"X : y\r\n\r\n", HEAD + b"X: y\r\n z\r\n\r\n", HEAD + b"X: \x01\r\n\r\n", HEAD + b"X: \xff\r\n\r\n",
+    b"GET  /records/1 HTTP/1.1\r\nHost: trial\r\n\r\n", b"GET /records/\xff HTTP/1.1\r\nHost: trial\r\n\r\n",
+    HEAD + b"X: " + b"y" * 16_384 + b"\r\n\r\n", HEAD + b"X: y\r\n" * 2500 + b"\r\n", HEAD + b"X: y\r\n" * 63 + b"\r\n",
+    HEAD + b"X: y\r\n" * 64 + b"\r\n",
+    HEAD + b"\r\n" + b"z" * 100_000, HEAD + b"Expect: x\r\n\r\n",
+    b"POST /acts HTTP/1.1\r\nhost:trial\r\ncontent-length:  2 \r\n\r\n[]",
+    b"POST /acts HTTP/1.1\r\nHost: trial\r\nContent-Length: 2\r\n\r\n[]GET /records/1 HTTP/1.1\r\n\r\n",
+    b"POST /acts HTTP/1.1\r\nHost: trial\r\nContent-Length: 20\r\n\r\n[]",
+    b"POST /acts HTTP/1.1\r\nHost: trial\r\nContent-Length: 2\r\nContent-Length: 2\r\n\r\n[]",
+    b"POST /acts HTTP/1.1\r\nHost: trial\r\nContent-Length: +2\r\n\r\n[]",
+    b"POST /acts HTTP/1.1\r\nHost: trial\r\nTransfer-Encoding: chunked\r\n\r\n2\r\n[]\r\n0\r\n\r\n",
+    b"POST /run/resume HTTP/1.1\r\nHost: trial\r\nContent-Length: 2\r\n\r\n[]"]
 
 
 def plain(reply: Reply) -> tuple[int, dict[str, str], bytes]:
@@ -55,8 +78,31 @@ def compared(cluster: Cluster) -> None:
                     differences.append((machine, method, path, body, lines, found, wanted))
         judge(f"requests: {len(CASES)} are answered by each member as by the bare office",
               not differences, differences)
+        connections(cluster, bare)
     finally:
         bare.end()
+
+
+def told_to(place: Place, raw: bytes) -> bytes:
+    """The bytes that come back to a client that sends these and ends its side."""
+    with socket_in(place.network) as link:
+        link.settimeout(40)
+        link.connect(("127.0.0.1", place.port))
+        link.sendall(raw)
+        link.shutdown(socket.SHUT_WR)
+        return b"".join(iter(lambda: link.recv(65536), b""))
+
+
+def without_own_lines(told: bytes) -> bytes:
+    return re.sub(rb"\r\n(Office-Position|Office-Age|Idempotency-Key): [^\r]*", b"", told)
+
+
+def connections(cluster: Cluster, bare: Bare) -> None:
+    """What comes on a connection is taken at the member as at the bare office, to the byte."""
+    differences = [(raw[:60], found, wanted) for raw in RAW
+                   if (found := without_own_lines(told_to(cluster.place(0), raw))) != (wanted := told_to(bare.place, raw))]
+    judge(f"requests: the bytes of {len(RAW)} connections are answered by a member as by the bare office",
+          not differences, differences)
 
 
 def not_acts(cluster: Cluster) -> None:
