@@ -22,8 +22,8 @@ MOST, LONGEST = 60, 1_048_576
 MOST_WAITING, MOST_BYTES, WAIT_SECONDS = 2000, 134_217_728, 30
 """requests, bytes of their bodies, and seconds, until one that was not tried is `busy`"""
 AGAIN_SECONDS = 0.1
-LONGEST_TURN = 0.2
-"""seconds for which another member is given way, at most"""
+PATIENT_SECONDS, LONGEST_TURN = 0.05, 0.5
+"""that a request waits until its member asks the others for a turn, and that they give it way, at most"""
 
 
 class Waiting:
@@ -71,6 +71,8 @@ class Appender:
         self.queue: list[Waiting] = []
         self.arrived = Arrived()
         self.appended = self.transactions = 0
+        self.took = 0.0
+        """the seconds of the last transaction"""
 
     # ---- for clients
 
@@ -128,10 +130,12 @@ class Appender:
     def append_all(self, group: list[Waiting]) -> None:
         """One transaction. Those that are still not in the log afterwards go with the next one."""
         before, began = self.position(), time.monotonic()
+        wants = 2 * self.took if began - group[0].began > PATIENT_SECONDS else 0.0
         try:
             if self.log.is_full and all(it.is_clear for it in group):
                 raise NotTaken("etcd is nearly full", "full")
-            first, found = self.log.try_append([it.request for it in group])
+            first, found = self.log.try_append([it.request for it in group], wants)
+            self.took = time.monotonic() - began
         except (NotTaken, Unclear) as error:
             return self.failed(group, error)
         if first is None:
@@ -141,12 +145,11 @@ class Appender:
         self.tell(first, before)
         for number, it in enumerate(group):
             it.end(Appended(first + number))
-        if self.log.is_awaited:
-            self.give_way(2 * (time.monotonic() - began))
+        self.give_way()
 
-    def give_way(self, seconds: float) -> None:
-        """Lets another member append. Whoever is next to etcd's leader would win each time otherwise."""
-        mine, until = self.log.last, time.monotonic() + min(seconds, LONGEST_TURN)
+    def give_way(self) -> None:
+        """Lets another member append that asked for it. Whoever is next to etcd's leader would win each time otherwise."""
+        mine, until = self.log.last, time.monotonic() + min(self.log.wanted, LONGEST_TURN)
         while self.log.last == mine and time.monotonic() < until:
             time.sleep(0.001)
 

@@ -12,7 +12,7 @@ Below /office/LOG/ etcd has
     blocked/NAME        the entry that a member cannot do, and has promised not to do
     refused/POSITION    the entry by which this one was refused: nobody does it
     chain/POSITION/NAME a hash over all answers of a member up to there
-    waits/NAME          a member that came too late for the end that it knew, since somebody appended last
+    waits/NAME          a member that came too late for the end that it knew, and how many seconds it needs to append
 
 What is dropped is compacted too, so that etcd gives no earlier revision of it either.
 """
@@ -75,8 +75,8 @@ class Log:
         self.quota = settings.etcd_quota
         self.last, self.is_full = 0, False
         """where the log ends, as far as this member knows"""
-        self.is_awaited = False
-        """another member waits for its turn, as this one appended last"""
+        self.wanted = 0.0
+        """how many seconds another member needed for its turn, as this one appended last"""
         self.refused: set[int] = set()
         """positions of entries that are known to be refused"""
         self.machine, self.dropped = machine_of(settings.folder), 0
@@ -92,12 +92,12 @@ class Log:
 
     # ---- what a request needs
 
-    def try_append(self, requests: Sequence[Request]) -> tuple[int | None, dict[str, tuple[int, str]]]:
+    def try_append(self, requests: Sequence[Request], wants: float = 0.0) -> tuple[int | None, dict[str, tuple[int, str]]]:
         """One transaction: the requests have the next positions, and this gives the first of them.
 
         Otherwise none of them is there now by this call. If the log ends where this member thought, it gives the
         positions and digests of those whose keys are in it; else it knows the end now, and the others know that it
-        waits. One thread of a member appends at a time, and no key is there twice.
+        `wants` so many seconds for its turn. One thread of a member appends at a time, and no key is there twice.
         """
         before, tail, waits = self.last, self.top + "tail", self.top + "waits/"
         keys = [self.top + "keys/" + it.key for it in requests]
@@ -105,10 +105,11 @@ class Log:
         puts = [get(waits, self.top + "waits0"), drop(waits, self.top + "waits0"), put(tail, str(last))]
         for position, (it, key) in enumerate(zip(requests, keys), before + 1):
             puts += [put(self.entry_key(position), it.value), put(key, f"{position} {it.digest}")]
-        done, rows = self.etcd.transact([has(tail, str(before)), *map(absent, keys)], puts,
-                                        [get(tail), put(waits + self.member, "")])
+        late = [put(waits + self.member, str(wants))] if wants else []
+        done, rows = self.etcd.transact([has(tail, str(before)), *map(absent, keys)], puts, [get(tail), *late])
         if done:
-            self.last, self.is_awaited = max(self.last, last), any(key != waits + self.member for key, _ in rows[0])
+            self.last = max(self.last, last)
+            self.wanted = max((float(told) for key, told in rows[0] if key != waits + self.member), default=0.0)
             return before + 1, {}
         if not rows[0]:
             raise NotTaken(f"there is no log {self.top} in etcd")

@@ -1,5 +1,5 @@
-"""Two trials of a member to which its etcd's answers come late, or never: it tells no age that is too small, and
-nobody is told that nothing is in the log while something may be."""
+"""Trials of a member to which its etcd's answers come late, or never: it tells no age that is too small, nobody is told
+that nothing is in the log while something may be, and its clients get their turn."""
 from __future__ import annotations
 
 import random
@@ -19,6 +19,8 @@ LATE_SECONDS = 2.0
 LIMIT = 30
 # seconds between two entries, and how long they come
 PACES = [(0.3, 20), (2.5, 30)]
+FAR_SECONDS, TURNS_SECONDS = 0.05, 15
+NEAR_CLIENTS, LEAST_TURNS = 6, 20
 
 
 def read(cluster: Cluster, traffic: Traffic, reader: int, stopping: threading.Event) -> None:
@@ -85,6 +87,30 @@ def unanswered(cluster: Cluster) -> None:
     cluster.write_settings(2)
     cluster.start_member(2)
     same_rows(cluster, "unanswered")
+
+
+def turns(cluster: Cluster) -> None:
+    """Etcd's answers reach member 2 late, while clients of member 0, which has them at once, leave the log no pause."""
+    begun(cluster)
+    door, until = through_door(cluster, 2, FAR_SECONDS), time.monotonic() + TURNS_SECONDS
+    done: dict[int, list[float]] = {0: [], 2: []}
+
+    def client(machine: int) -> None:
+        while time.monotonic() < until:
+            began = time.monotonic()
+            if post(cluster, machine, []).status == 200:
+                done[machine].append(time.monotonic() - began)
+
+    clients = [threading.Thread(target=client, args=(it,)) for it in [2, *[0] * NEAR_CLIENTS]]
+    for it in clients:
+        it.start()
+    for it in clients:
+        it.join(60)
+    judge("turns: a client of the member that is far gets its turn beside those of another one",
+          len(done[2]) >= LEAST_TURNS and len(done[0]) > len(done[2]),
+          f"{len(done[0])} and {len(done[2])} answers, the latest after {max(done[2], default=0):.2f} s", always=True)
+    door.seconds = 0
+    same_rows(cluster, "turns")
 
 
 def has_key(cluster: Cluster, key: str) -> bool:
