@@ -11,6 +11,7 @@ import json
 import re
 import socket
 import uuid
+from typing import NamedTuple
 
 from replica import metrics
 from replica.errors import say
@@ -63,52 +64,68 @@ def length_of(head: Head) -> int:
     return int(sizes[0])
 
 
+class Asked(NamedTuple):
+    """A request that came whole. With a key it is one for the log."""
+
+    head: Head
+    key: str | None = None
+    body: bytes = b""
+
+
 class Connection:
     """One connection: one request, one answer."""
 
     def __init__(self, service: Service, reader: asyncio.StreamReader, writer: asyncio.StreamWriter) -> None:
         self.service, self.reader, self.writer = service, reader, writer
         writer.transport.set_write_buffer_limits(0)
-        self.key: str | None = None
-        """what the request is known by, once it is one for the log"""
 
     async def run(self) -> None:
         """Reads the request, answers it, and reads what the client still sends, so that its answer is not lost."""
+        key = None
         try:
-            answer = await self.answer(await self.head())
+            async with asyncio.timeout(SILENT_SECONDS):
+                asked = await self.asked()
+            answer, key = await self.answer(asked), asked.key
         except Refused as error:
             answer = Answer(None, str(error))
-        self.writer.write(self.written(answer))
+        self.writer.write(self.written(answer, key))
         self.writer.write_eof()
         if self.writer.transport.get_write_buffer_size() > 0:
             async with asyncio.timeout(SILENT_SECONDS):
                 await self.writer.drain()
         await self.leave()
 
+    async def asked(self) -> Asked:
+        """The request. Of a body no act is looked at."""
+        head = await self.head()
+        if not head.is_whole:
+            raise Refused("head")
+        self.writer.write(head.told)
+        if head.command != "POST" or head.target not in KINDS:
+            return Asked(head)
+        key = head.line("Idempotency-Key") or uuid.uuid4().hex
+        if not head.has_host():
+            raise Refused("host")
+        if not re.fullmatch("[A-Za-z0-9._~-]{1,64}", key):
+            raise Refused("header")
+        try:
+            return Asked(head, key, await self.reader.readexactly(length_of(head)) if head.target == "/acts" else b"")
+        except asyncio.IncompleteReadError as error:
+            raise Refused("body") from error
+
     async def head(self) -> Head:
-        """The head of the request, to its first empty line. ConnectionError where nothing came."""
+        """What came, to its first empty line. ConnectionError where nothing came."""
         raw = b""
         try:
-            async with asyncio.timeout(SILENT_SECONDS):
-                while not raw.endswith((b"\n\n", b"\n\r\n")) and len(raw) <= LONGEST_HEAD:
-                    raw += await self.reader.readuntil(b"\n")
+            while not raw.endswith((b"\n\n", b"\n\r\n")):
+                raw += await self.reader.readuntil(b"\n")
+                if len(raw) > LONGEST_HEAD:
+                    raise Refused("head")
         except asyncio.IncompleteReadError as error:
             raise Refused("head") if raw or error.partial else ConnectionError("nothing came") from error
         except asyncio.LimitOverrunError as error:
             raise Refused("head") from error
-        head = Head(raw)
-        if len(raw) > LONGEST_HEAD or not head.is_whole:
-            raise Refused("head")
-        self.writer.write(head.told)
-        return head
-
-    async def body(self, size: int) -> bytes:
-        """The body of the request. No act of it is looked at."""
-        try:
-            async with asyncio.timeout(SILENT_SECONDS):
-                return await self.reader.readexactly(size)
-        except asyncio.IncompleteReadError as error:
-            raise Refused("body") from error
+        return Head(raw)
 
     async def leave(self) -> None:
         left = DRAINED
@@ -120,7 +137,7 @@ class Connection:
                     return
                 left -= len(part)
 
-    def written(self, answer: Answer) -> bytes:
+    def written(self, answer: Answer, key: str | None) -> bytes:
         """The office's bytes, with some lines more in their head, or an error."""
         content = answer.content
         if isinstance(content, str):
@@ -129,28 +146,19 @@ class Connection:
         if answer.position is not None:
             more += b"Office-Position: %d\r\n" % answer.position
         more += b"Office-Age: %s\r\n" % (answer.age or self.service.age()).encode()
-        if self.key is not None:
-            more += b"Idempotency-Key: %s\r\n" % self.key.encode()
+        if key is not None:
+            more += b"Idempotency-Key: %s\r\n" % key.encode()
         return content.replace(b"\r\n", b"\r\n" + more, 1)
 
-    async def answer(self, head: Head) -> Answer:
-        if head.command == "POST" and head.target in KINDS:
-            return await self.post(head)
-        if head.command == "GET" and head.target == "/replica":
+    async def answer(self, asked: Asked) -> Answer:
+        head, key, body = asked
+        if key is not None:
+            return await self.service.post(key, KINDS[head.target], body)
+        if (head.command, head.target) == ("GET", "/replica"):
             return self.state()
-        if head.command == "GET" and head.target == "/metrics":
+        if (head.command, head.target) == ("GET", "/metrics"):
             return Answer(None, message("200 OK", metrics.text(self.service), "text/plain; version=0.0.4"))
         return await self.read(head)
-
-    async def post(self, head: Head) -> Answer:
-        key = head.line("Idempotency-Key") or uuid.uuid4().hex
-        if not head.has_host():
-            raise Refused("host")
-        if not re.fullmatch("[A-Za-z0-9._~-]{1,64}", key):
-            raise Refused("header")
-        body = await self.body(length_of(head)) if head.target == "/acts" else b""
-        self.key = key
-        return await self.service.post(key, KINDS[head.target], body)
 
     async def read(self, head: Head) -> Answer:
         """A reading, or what the office refuses."""
