@@ -22,7 +22,7 @@ MOST, LONGEST = 60, 1_048_576
 MOST_WAITING, MOST_BYTES, WAIT_SECONDS = 2000, 134_217_728, 30
 """requests, bytes of their bodies, and seconds, until one that was not tried is `busy`"""
 AGAIN_SECONDS = 0.1
-PATIENT_SECONDS, LONGEST_TURN = 0.05, 0.5
+PATIENT_SECONDS, LONGEST_TURN = 0.02, 0.5
 """that a request waits until its member asks the others for a turn, and that they give it way, at most"""
 
 
@@ -148,9 +148,9 @@ class Appender:
         self.give_way()
 
     def give_way(self) -> None:
-        """Lets another member append that asked for it. Whoever is next to etcd's leader would win each time otherwise."""
-        mine, until = self.log.last, time.monotonic() + min(self.log.wanted, LONGEST_TURN)
-        while self.log.last == mine and time.monotonic() < until:
+        """Lets those append that asked for it. Whoever is next to etcd's leader would win each time otherwise."""
+        until = time.monotonic() + min(max(self.log.awaited.values(), default=0.0), LONGEST_TURN)
+        while self.log.awaited and time.monotonic() < until:
             time.sleep(0.001)
 
     def failed(self, group: list[Waiting], error: NotTaken | Unclear) -> None:

@@ -19,6 +19,8 @@ class Entry(NamedTuple):
     program: str
     """the digest of the office's program at the member that appended it"""
     body: bytes
+    member: str = ""
+    """who appended it, where that is known"""
 
 
 def entry_at(key: str, value: bytes) -> Entry:
@@ -26,6 +28,6 @@ def entry_at(key: str, value: bytes) -> Entry:
     head, _, body = value.partition(b"\n")
     try:
         told = json.loads(head)
-        return Entry(int(key[-16:]), told["key"], told["kind"], told["program"], body)
+        return Entry(int(key[-16:]), told["key"], told["kind"], told["program"], body, told.get("member", ""))
     except (ValueError, KeyError, TypeError) as error:
         raise Halt(f"{key} is no entry: {error!r}") from error

@@ -75,8 +75,8 @@ class Log:
         self.quota = settings.etcd_quota
         self.last, self.is_full = 0, False
         """where the log ends, as far as this member knows"""
-        self.wanted = 0.0
-        """how many seconds another member needed for its turn, as this one appended last"""
+        self.awaited: dict[str, float] = {}
+        """members that have waited for their turn since this one appended last, and how many seconds each needs"""
         self.refused: set[int] = set()
         """positions of entries that are known to be refused"""
         self.machine, self.dropped = machine_of(settings.folder), 0
@@ -109,7 +109,7 @@ class Log:
         done, rows = self.etcd.transact([has(tail, str(before)), *map(absent, keys)], puts, [get(tail), *late])
         if done:
             self.last = max(self.last, last)
-            self.wanted = max((float(told) for key, told in rows[0] if key != waits + self.member), default=0.0)
+            self.awaited = {key[len(waits):]: float(told) for key, told in rows[0] if key != waits + self.member}
             return before + 1, {}
         if not rows[0]:
             raise NotTaken(f"there is no log {self.top} in etcd")
@@ -196,6 +196,8 @@ class Log:
                     if arrived.is_new(int(key[-16:])):
                         entries.append(entry_at(key, base64.b64decode(value)))
             arrived.add(entries)
+            for it in entries:
+                self.awaited.pop(it.member, None)
             if not rows:
                 arrived.has_missed = True
             if entries or not rows:
