@@ -2,13 +2,14 @@
 
 A reading that takes longer than the limit hangs. An entry may take as long as it needs. An office hangs that has used no
 processor for a while though somebody waits. One that nobody asks is asked now and then, so that it is found within 30
-seconds in each case.
+seconds in each case. After half of that time the member tells that its office does nothing.
 To kill an office is safe at any moment: what it had answered is in FILE, and else the member goes back to a snapshot.
 """
 from __future__ import annotations
 
 import pathlib
 import subprocess
+import threading
 import time
 
 from replica.errors import say
@@ -48,8 +49,8 @@ class Guard:
             try:
                 self.look()
                 if time.monotonic() - self.asked > min(ASK_SECONDS, self.limit):
-                    self.service.ask_if_free(self.limit)
                     self.asked = time.monotonic()
+                    threading.Thread(target=self.service.ask_if_free, args=(self.limit,), daemon=True).start()
             except Exception as error:  # without this thread nobody would find an office that hangs
                 say(f"the office is not looked at: {error!r}")
 
@@ -58,12 +59,13 @@ class Guard:
         owes, process = self.office.owes, self.office.process
         ticks = None if owes is None or process is None else ticks_of(process)
         if owes is None or process is None or ticks is None:
-            self.seen = None
+            self.seen, self.office.is_still = None, False
             return
         seen, now = (owes, process.pid, ticks), time.monotonic()
         if seen != self.seen:
             self.seen, self.still = seen, now
-        elif now - self.still > self.limit:
+        self.office.is_still = now - self.still > self.limit / 2
+        if now - self.still > self.limit:
             say(f"the office has done nothing for {self.limit} seconds while somebody waits: it is started again")
             self.seen = None
             self.office.kill()

@@ -82,7 +82,8 @@ class Office:
         self.process: subprocess.Popen[bytes] | None = None
         self.owes: float | None = None
         """since when an answer is awaited, or the line that says that it serves"""
-        self.is_starting = False
+        self.is_starting = self.is_still = False
+        """it is being started; it has done nothing for a while though somebody waits (guard.py)"""
         self.starts = 0
 
     def start(self) -> None:
@@ -147,6 +148,8 @@ class Office:
         owes = self.owes
         if self.is_starting:
             return "the office is being started"
+        if self.is_still:
+            return "the office does nothing while somebody waits"
         if owes is not None and time.monotonic() - owes > limit:
             return f"the office has not answered for more than {limit:.0f} seconds"
         return ""

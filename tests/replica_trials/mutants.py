@@ -153,8 +153,11 @@ MUTANTS = [
     Mutant("no entry is left alone: readings end with it", "blocked.py",
            "        return self.failures >= FAILURES and time.monotonic() < self.until\n", "        return False\n", "undoable"),
     Mutant("an office that hangs is not noticed", "guard.py", "            self.office.kill()\n", "            pass\n", "hanging"),
-    Mutant("nobody asks an office that nobody uses", "guard.py", "                    self.service.ask_if_free(self.limit)\n",
+    Mutant("nobody asks an office that nobody uses", "guard.py",
+           "                    threading.Thread(target=self.service.ask_if_free, args=(self.limit,), daemon=True).start()\n",
            "                    pass\n", "hanging"),
+    Mutant("an office that does nothing is told of only when it is ended", "guard.py",
+           "        self.office.is_still = now - self.still > self.limit / 2\n", "", "hanging"),
     Mutant("the program that comes to the name is run by a member of before", "program.py", "        return subprocess.Popen(\n",
            "        self.descriptor = os.open(self.path, os.O_RDONLY)\n        return subprocess.Popen(\n", "replaced"),
 ]
