@@ -92,7 +92,7 @@ class Log:
 
     # ---- what a request needs
 
-    def try_append(self, requests: Sequence[Request], wants: float = 0.0) -> tuple[int | None, dict[str, tuple[int, str]]]:
+    def try_append(self, requests: Sequence[Request], wants: float) -> tuple[int | None, dict[str, tuple[int, str]]]:
         """One transaction: the requests have the next positions, and this gives the first of them.
 
         Otherwise none of them is there now by this call. If the log ends where this member thought, it gives the

@@ -156,7 +156,9 @@ def hanging(cluster: Cluster) -> None:
         return
     os.kill(office, signal.SIGSTOP)
     took = seconds_until(cluster, 2, False, LIMIT + 60)
-    judge("hang: within 30 seconds /replica says so, though no client asks", took < LIMIT, f"{took:.0f} s", always=True)
+    is_there = cluster.office_process(2) == office
+    judge("hang: within 30 seconds /replica says so, though no client asks, and before the office is ended",
+          took < LIMIT and is_there, f"{took:.0f} s", always=True)
     took = seconds_until(cluster, 2, True, 120)
     judge("hang: the office is started again", took < 120 and cluster.office_process(2) not in (None, office),
           f"{took:.0f} s", always=True)

@@ -45,8 +45,8 @@ class Numbers:
 
 
 class Driven(NamedTuple):
-    """What clients got: acts a second, requests that were not 200, and the seconds of each that was; and the parts of 100
-    of the processors' time that the machine's host took meanwhile."""
+    """What clients got: acts a second, requests that were not 200, and the seconds of each that was; and the parts of
+    100 of the processors' time that the machine's host took meanwhile."""
 
     rate: float
     wrong: int
@@ -64,8 +64,8 @@ async def asked(port: int, body: bytes) -> bool:
     """Whether a request with a key of its own is answered 200."""
     reader, writer = await asyncio.open_connection("127.0.0.1", port)
     try:
-        lines = ("POST /acts HTTP/1.1", "Host: trial", f"Idempotency-Key: {uuid.uuid4().hex}", f"Content-Length: {len(body)}")
-        writer.write("\r\n".join(lines).encode() + b"\r\n\r\n" + body)
+        key, size = f"Idempotency-Key: {uuid.uuid4().hex}", f"Content-Length: {len(body)}"
+        writer.write(f"POST /acts HTTP/1.1\r\nHost: trial\r\n{key}\r\n{size}\r\n\r\n".encode() + body)
         head, _, told = (await reader.read()).partition(b"\r\n\r\n")
         return head.startswith(b"HTTP/1.1 200 ") and b"Content-Length: %d\r\n" % len(told) in head + b"\r\n"
     finally:
@@ -83,7 +83,8 @@ async def driven(ports: list[int], each: int, size: int, numbers: Numbers) -> tu
         source = random.Random(number)
         while time.time() < until:
             first = numbers.next(each)
-            body, at = json.dumps([record(first + it, source.randbytes(size)) for it in range(each)]).encode(), time.time()
+            body = json.dumps([record(first + it, source.randbytes(size)) for it in range(each)]).encode()
+            at = time.time()
             try:
                 is_right = await asyncio.wait_for(asked(port, body), 40)
             except (OSError, TimeoutError):

@@ -99,8 +99,8 @@ def without_own_lines(told: bytes) -> bytes:
 
 def connections(cluster: Cluster, bare: Bare) -> None:
     """What comes on a connection is taken at the member as at the bare office, to the byte."""
-    differences = [(raw[:60], found, wanted) for raw in RAW
-                   if (found := without_own_lines(told_to(cluster.place(0), raw))) != (wanted := told_to(bare.place, raw))]
+    answers = [(raw[:60], without_own_lines(told_to(cluster.place(0), raw)), told_to(bare.place, raw)) for raw in RAW]
+    differences = [it for it in answers if it[1] != it[2]]
     judge(f"requests: the bytes of {len(RAW)} connections are answered by a member as by the bare office",
           not differences, differences)
 
