@@ -29,8 +29,8 @@ PATIENT_SECONDS, LONGEST_TURN = 0.02, 0.5
 class Waiting:
     """A request that goes into the log, and what became of it, once that is told."""
 
-    def __init__(self, request: Request, entry: Entry) -> None:
-        self.request, self.entry = request, entry
+    def __init__(self, request: Request, entry: Entry, is_needed: bool) -> None:
+        self.request, self.entry, self.is_needed = request, entry, is_needed
         self.told: Future[Appended] = Future()
         self.is_clear = True
         """no transaction that had it may still be done"""
@@ -76,15 +76,16 @@ class Appender:
 
     # ---- for clients
 
-    def append(self, key: str, kind: str, body: bytes) -> Future[Appended]:
-        """Puts a request at the end, once for its key, however often it is called, and tells what became of it.
+    def append(self, key: str, kind: str, body: bytes, is_needed: bool = False) -> Future[Appended]:
+        """Puts a request at the end, once for its key, however often it is called, and tells what became of it. One
+        that is needed, to drop what the log has, goes there though etcd is nearly full.
 
         An error of the name `unknown` says that it may be in the log, each other that this call put nothing there.
         """
         head = {"key": key, "kind": kind, "member": self.log.member, "program": self.log.program}
         digest = hashlib.sha256(kind.encode() + b"\n" + body).hexdigest()
         request = Request(key, json.dumps(head).encode() + b"\n" + body, digest)
-        waiting = Waiting(request, Entry(0, key, kind, self.log.program, body))
+        waiting = Waiting(request, Entry(0, key, kind, self.log.program, body), is_needed)
         with self.changed:
             if len(self.queue) >= MOST_WAITING or sum(len(it.entry.body) for it in self.queue) > MOST_BYTES:
                 waiting.end(Appended(None, "busy"))
@@ -132,7 +133,7 @@ class Appender:
         before, began = self.position(), time.monotonic()
         wants = 2 * self.took if began - group[0].began > PATIENT_SECONDS else 0.0
         try:
-            if self.log.is_full and all(it.is_clear for it in group):
+            if self.log.is_full and all(it.is_clear and not it.is_needed for it in group):
                 raise NotTaken("etcd is nearly full", "full")
             first, found = self.log.try_append([it.request for it in group], wants)
             self.took = time.monotonic() - began

@@ -150,11 +150,6 @@ class Etcd:
         answer = self.call("/v3/kv/txn", {"compare": [], "success": operations, "failure": []}, False)
         return int(answer["header"]["revision"]), [rows_of(it) for it in answer.get("responses", ())]
 
-    def change(self, conditions: Sequence[Part], done: Sequence[Part]) -> int:
-        """The revision of a transaction that was done, or 0 where a condition did not hold."""
-        answer = self.call("/v3/kv/txn", {"compare": conditions, "success": done}, False)
-        return int(answer["header"]["revision"]) if answer.get("succeeded", False) else 0
-
     def compact(self, revision: int) -> None:
         """Drops what was taken away or written over before a revision: no question gets it any more."""
         try:

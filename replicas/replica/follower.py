@@ -293,11 +293,12 @@ class Follower:
         if not self.may_pause(size):
             return False
         if not is_due and not self.wants_snapshot:
-            if not self.regular.is_due():
+            if not self.regular.is_due(self.log.is_full):
                 return False
             if self.position <= max(self.snapshots.positions(), default=0):
                 if self.regular.may_ask() and self.appender.is_idle():
-                    self.appender.append(f"snapshot-{self.settings.name}-{self.position}", "acts", NO_ACTS).result()
+                    key = f"snapshot-{self.settings.name}-{self.position}"
+                    self.appender.append(key, "acts", NO_ACTS, True).result()
                 return False
         self.wants_snapshot = False
         self.regular.taken()

@@ -79,7 +79,9 @@ class Log:
         """members that have waited for their turn since this one appended last, and how many seconds each needs"""
         self.refused: set[int] = set()
         """positions of entries that are known to be refused"""
-        self.machine, self.dropped = machine_of(settings.folder), 0
+        self.machine = machine_of(settings.folder)
+        self.compacted: int | None = None
+        """up to where the log was dropped as etcd was compacted last, by this process"""
 
     def entry_key(self, position: int) -> str:
         return f"{self.top}log/{position:016d}"
@@ -262,18 +264,23 @@ class Log:
         least, first = min(int(value) for _, value in rows[1]), int(rows[2][0][1])
         until = min(least, first + DROPPED_AT_ONCE - 1)
         if until >= first:
-            self.dropped = self.etcd.change(
+            self.etcd.transact(
                 [has(top + "first", str(first))],
                 [put(top + "first", str(until + 1)),
                  drop(self.entry_key(0), self.entry_key(until + 1)),
                  drop(top + "chain/", self.chain_key(until)),
-                 drop(top + "refused/", self.refused_key(until + 1))]) or self.dropped
+                 drop(top + "refused/", self.refused_key(until + 1))])
         if until < least:
             return until, False
-        if self.dropped:
-            self.etcd.compact(self.dropped)
-            self.dropped = 0
+        self.compact(least)
         return least, True
+
+    def compact(self, least: int) -> None:
+        """Lets etcd forget what was dropped, by whomever: that member may have had no answer, or may have ended."""
+        if self.compacted != least:
+            revision, _ = self.etcd.read([get(self.top + "first")])
+            self.etcd.compact(revision)
+            self.compacted = least
 
     def drop_keys(self, keys: Sequence[str]) -> None:
         """From now on a request with one of these keys is a new request."""

@@ -43,5 +43,6 @@ class Regular:
         self.asked = time.monotonic()
         return True
 
-    def is_due(self) -> bool:
-        return self.seconds > 0 and self.owed > 0 and time.monotonic() - self.last > self.seconds
+    def is_due(self, is_full: bool) -> bool:
+        """Whether one is owed since long, or at all while etcd is nearly full: no entry makes another position then."""
+        return self.owed > 0 and (is_full or self.seconds > 0 and time.monotonic() - self.last > self.seconds)

@@ -272,8 +272,9 @@ TRIALS = {
     "replaced": programs.replaced, "assumed_disk": programs.assumed_disk, "slow_snapshot": programs.slow_snapshot,
     "slow_copy": programs.slow_copy, "undoable": programs.undoable, "refused": programs.refused, "moved": moving.moved,
     "one_name": moving.one_name, "gone": moving.gone, "together": together.together, "synced": syncing.synced,
-    "history": history.history, "kept": history.kept, "at_rest": history.at_rest, "old_key": history.old_key,
-    "other_body": history.other_body, "late": late.late, "unanswered": late.unanswered, "turns": late.turns,
+    "history": history.history, "dropped": history.dropped, "kept": history.kept, "at_rest": history.at_rest,
+    "old_key": history.old_key, "other_body": history.other_body, "late": late.late, "unanswered": late.unanswered,
+    "turns": late.turns,
     "half_done": going_back.half_done, "never_back": going_back.never_back, "older_log": going_back.older_log,
     "in_question": going_back.in_question}
 

@@ -57,6 +57,30 @@ def history(cluster: Cluster) -> None:
     same_rows(cluster, "history")
 
 
+def dropped(cluster: Cluster) -> None:
+    """A member drops an entry and ends before it compacts etcd. Nobody has to drop it any more: others compact."""
+    begun(cluster)
+    key, revision = filed(cluster)
+    for machine in range(3):
+        cluster.wait_for(machine, cluster.position(0))
+    for machine in range(3):
+        cluster.kill(f"member{machine}", how=signal.SIGTERM)
+    position = int(key[-16:])
+    cluster.etcdctl(0, "put", "/office/city/first", str(position + 1))
+    cluster.etcdctl(0, "del", f"{key[:-16]}{0:016d}", f"{key[:-16]}{position + 1:016d}")
+    judge("dropped: etcd has the entry at its revision", all(key in it for it in asked(cluster, key, revision)))
+    cluster.start_member(1)
+    cluster.wait_for(1, position)
+    time.sleep(REPORTED_SECONDS)
+    said = asked(cluster, key, revision)
+    judge("dropped: once a member has started, no etcd gives it at any revision",
+          all("compacted" in it and key not in it for it in said), said)
+    for machine in (0, 2):
+        cluster.start_member(machine)
+        cluster.wait_for(machine, position)
+    same_rows(cluster, "dropped")
+
+
 def kept(cluster: Cluster) -> None:
     """A member is away while the others make snapshots: the log is kept for it, and it goes on from where it was."""
     begun(cluster)
