@@ -23,8 +23,6 @@ MOST_AT_ONCE = 1000
 """readings; those beyond wait for one that is answered"""
 NEWEST, ANY = "newest", "any"
 """what a reading may ask for: all that was answered before it, or whatever this machine has"""
-
-
 Told = TypeVar("Told")
 
 
