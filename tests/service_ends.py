@@ -18,6 +18,7 @@ def ends(folder: pathlib.Path) -> None:
     pruned(folder, file)
     befores(file)
     scrubbed(folder, file)
+    encrypted(folder)
 
 
 def leftovers(folder: pathlib.Path, file: pathlib.Path) -> None:
@@ -166,3 +167,42 @@ def scrubbed(folder: pathlib.Path, file: pathlib.Path) -> None:
     judge("a copy of the earlier layout is found", status == 0 and "city-20250101T023000Z.db" in out, out + error)
     status, _, error = script("office-scrub", folder / "none")
     judge("where there is none it says so", status == 3 and "there is no copy" in error, error.strip())
+
+
+def encrypted(folder: pathlib.Path) -> None:
+    """Copies are encrypted to a public key, each once, and end by a number of days of their own."""
+    copies, there = folder / "encrypted/copies", folder / "encrypted/there"
+    key, recipients = folder / "encrypted/key", folder / "encrypted/recipients"
+    young = time.strftime("%Y%m%dT%H%M%SZ.db", time.gmtime())
+    for own in (copies, there):
+        own.mkdir(parents=True)
+    for at, name in enumerate(("20200101T023000Z.db", "20200102T023000Z.db", young, "by-hand.db"), 1):
+        (copies / name).write_bytes(text_of(at))
+    run("age-keygen", "-o", key)
+    recipients.write_text(run("age-keygen", "-y", key)[1])
+    for own in (copies, there, *copies.iterdir(), recipients):
+        os.chown(own, NOBODY, NOBODY)
+    status, _, error = script("office-encrypt", copies, key, there)
+    judge("a file that contains a private key is refused", status == 1 and not list(there.iterdir()), error.strip())
+    status, out, error = script("office-encrypt", copies, recipients, there)
+    names = sorted(each.name for each in there.iterdir())
+    judge("each copy of the unit is encrypted, for the owner alone", status == 0 and out.count("encrypted: ") == 3
+          and names == ["20200101T023000Z.db.age", "20200102T023000Z.db.age", f"{young}.age"]
+          and {mode_of(each) for each in there.iterdir()} == {("0o600", NOBODY)}, out + error)
+    whole = subprocess.run(["age", "--decrypt", "--identity", key, there / names[0]], capture_output=True, check=False)
+    judge("the private key gives the copy back, and nothing of it can be read without", whole.stdout == text_of(1)
+          and not any(b"MEDICAL" in each.read_bytes() for each in there.iterdir()), whole.stderr.decode())
+    before = {each: each.stat().st_mtime_ns for each in there.iterdir()}
+    status, out, _ = script("office-encrypt", copies, recipients, there, user=NOBODY)
+    judge("another call encrypts nothing anew", (status, out) == (0, "")
+          and before == {each: each.stat().st_mtime_ns for each in there.iterdir()})
+    status, out, _ = script("office-encrypt", copies, recipients, there, ENCRYPTED_DAYS="30", BACKUP_COPIES="2")
+    again = script("office-encrypt", copies, recipients, there, ENCRYPTED_DAYS="30", BACKUP_COPIES="2")
+    judge("what is old goes, the newest ones stay, and what went is not made anew", (status, again[:2]) == (0, (0, ""))
+          and sorted(each.name for each in there.iterdir()) == names[1:] and out.endswith(f"removed: {there / names[0]}\n"),
+          out + again[1])
+    recipients.write_text("age1none\n")
+    (there / names[1]).unlink()
+    status, _, error = script("office-encrypt", copies, recipients, there)
+    judge("what is no public key is refused, and nothing is left of it", status == 1 and "not encrypted" in error
+          and [each.name for each in there.iterdir()] == names[2:], error.strip())
