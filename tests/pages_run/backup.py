@@ -72,13 +72,18 @@ def has_kept(shell: Shell) -> None:
     """What is old, in both layouts: the last good copies stay, however old."""
     judge("what a restore put aside is there", any("before" in it for it in os.listdir(os.path.dirname(city.FILE))))
     shell.run(f"mkdir -p {BACKUPS} && cp city.db {BACKUPS}/20200101T000000Z.db && "
-              f"cp city.db {BACKUPS}-20200102T000000Z.db")
+              f"cp city.db {BACKUPS}-20200102T000000Z.db && chown office: {BACKUPS}/*.db {BACKUPS}-*.db")
 
 
 def has_moved(shell: Shell) -> None:
     there = sorted(os.listdir(BACKUPS))
     judge("the copies of the earlier layout are in the folder, and none was removed",
           there == ["20200101T000000Z.db", "20200102T000000Z.db"], f"{there}")
+
+
+def is_decrypted(shell: Shell) -> None:
+    judge("the key gives the copy back, byte for byte",
+          shell.path("back.db").read_bytes() == shell.path("city.db").read_bytes())
 
 
 def left_is_seen(shell: Shell) -> None:
@@ -139,6 +144,12 @@ ROWS = [
     Row("BEFORE_DAYS=30 office-prune", prints=""),
     Row("install -d -o office -g office -m 700 /var/lib/office-backups/city"),
     Row("find /var/lib/office-backups -maxdepth 1", then=has_moved),
+    Row("age-keygen -o archive.key"),
+    Row("age-keygen -y archive.key", prints=""),
+    Row("install -m 644 city.recipients"),
+    Row("install -d -o office -g office -m 700 /var/lib/office-encrypted/city"),
+    Row("office-encrypt", like=r"(encrypted: /var/lib/office-encrypted/city/\w+\.db\.age\n){2}"),
+    Row("age --decrypt", prints="", then=is_decrypted),
     Row(LEFT, prints="", then=left_is_seen),
     Row(f"office-compact {city.FILE}", like=r"(.*\n)?records: 33, the same\n.*", then=is_compact),
     Row("BEFORE_DAYS=0 office-prune", like=r"(removed: \S+\n)+", then=is_shredded),

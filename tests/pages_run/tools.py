@@ -4,6 +4,7 @@ import shutil
 
 PACKAGES = {
     "adduser": "adduser",
+    "age": "age",
     "chgrp": "coreutils",
     "chattr": "e2fsprogs",
     "cksum": "coreutils",
