@@ -25,6 +25,7 @@ class Seal:
     certificate: int
     digest: str
     previous: str
+    at: str
     own: str
 
 
@@ -52,5 +53,5 @@ def read(seals: pathlib.Path, office: str) -> list[Seal]:
             raise Refused(WRONG, f"the chain of seals is broken at {folder}: bring the folder back from its copy")
         if said[2] != office:
             raise Refused(WRONG, f"{folder} is of the office {said[2]}, and not of {office}")
-        found.append(Seal(folder, at, said[2], int(said[3]), said[4], said[5], digest(data)))
+        found.append(Seal(folder, at, said[2], int(said[3]), said[4], said[5], said[6], digest(data)))
     return found

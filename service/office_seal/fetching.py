@@ -3,11 +3,13 @@ import hashlib
 import http.client
 import pathlib
 import re
+import time
 
 from office_seal import durable
 from office_seal.errors import IMPOSSIBLE, WRONG, Refused
 
 SECONDS = 300
+DAY = 86_400
 NAME = re.compile(r"certificate-([1-9][0-9]{0,9})\.txt")
 LAST = len(b"SHA256 \n") + 64
 ADVICE = ("was a backup restored, or was FILE changed by somebody else? Find out which, with the text that is kept; "
@@ -63,3 +65,13 @@ def fetch(port: int, folder: pathlib.Path, is_restored: bool) -> int:
             there[beyond].unlink()
         durable.sync(folder)
         return new
+
+
+def check_sealed(certificates: pathlib.Path, seals: pathlib.Path) -> None:
+    """Refuses a certificate that is kept for more than a day without a seal, if the office has ever sealed one."""
+    sealed = {int(name[1]) for it in seals.glob("[0-9]*/certificate-*.txt") if (name := NAME.fullmatch(it.name))}
+    old = time.time() - DAY
+    late = [number for number, file in kept(certificates).items() if number not in sealed and file.stat().st_mtime < old]
+    if sealed and late:
+        raise Refused(WRONG, f"certificate {late[0]} is here for more than a day and has no seal ({len(late)} in all): see "
+                             "why the unit office-seal@ does not seal it")

@@ -4,16 +4,25 @@ import pathlib
 import tempfile
 import urllib.error
 import urllib.request
+from dataclasses import dataclass
 
 from office_seal import chain, durable
-from office_seal.errors import IMPOSSIBLE, Refused
+from office_seal.errors import IMPOSSIBLE, LACKING, Refused
 from office_seal.signing import tool
 
 SECONDS = 60
 LONGEST = 1 << 20
 
 
-def stamp(seals: pathlib.Path, office: str, url: str) -> int:
+@dataclass(frozen=True)
+class Authority:
+    """A time-stamping authority: its address, and the file of the certificates by which its stamps are verified."""
+
+    url: str
+    certificates: pathlib.Path | None
+
+
+def stamp(seals: pathlib.Path, office: str, authority: Authority) -> int:
     """Stamps each signature that has no stamp: how many. One that the authority refuses stays for the next time."""
     with durable.locked(seals):
         new = 0
@@ -21,31 +30,33 @@ def stamp(seals: pathlib.Path, office: str, url: str) -> int:
             signature, stamped = seal.folder / "seal.txt.sig", seal.folder / "seal.txt.tsr"
             if stamped.exists():
                 continue
+            if authority.certificates is None or not authority.certificates.is_file():
+                raise Refused(LACKING, f"nothing is stamped: STAMP_CA names no file ({authority.certificates}); it must be "
+                                       "the authority's certificate, by which each stamp is verified. Seals are made "
+                                       "without a stamp meanwhile (EVIDENCE.md, A time-stamping authority)")
             query = tool("openssl", "ts", "-query", "-data", str(signature), "-sha256", "-cert")
-            durable.write(stamped, answered(url, query))
+            durable.write(stamped, answered(authority, query))
             new += 1
         return new
 
 
-def answered(url: str, query: bytes) -> bytes:
-    """The authority's reply, which must be a stamp of this very query."""
-    request = urllib.request.Request(url, query, {"Content-Type": "application/timestamp-query"})
+def answered(authority: Authority, query: bytes) -> bytes:
+    """The authority's reply, which must be a stamp of this very query, signed by that authority."""
+    request = urllib.request.Request(authority.url, query, {"Content-Type": "application/timestamp-query"})
     try:
         with urllib.request.urlopen(request, timeout=SECONDS) as reply:
             data = reply.read(LONGEST)
     except (urllib.error.URLError, OSError, http.client.HTTPException, ValueError) as why:
-        raise Refused(IMPOSSIBLE, f"{url} gives no stamp: {why}") from why
+        raise Refused(IMPOSSIBLE, f"{authority.url} gives no stamp: {why}") from why
     with tempfile.TemporaryDirectory() as name:
         asked, given = pathlib.Path(name) / "query", pathlib.Path(name) / "reply"
         asked.write_bytes(query)
         given.write_bytes(data)
-        text = tool("openssl", "ts", "-reply", "-in", str(given), "-text").decode(errors="replace")
-        if "Status: Granted" not in text:
-            raise Refused(IMPOSSIBLE, f"{url} refuses to stamp: {text.splitlines()[:3]}")
-        if nonce_of(text) != nonce_of(tool("openssl", "ts", "-query", "-in", str(asked), "-text").decode()):
-            raise Refused(IMPOSSIBLE, f"{url} answers with the stamp of another query")
+        try:
+            # the nonce, the imprint and the signature
+            tool("openssl", "ts", "-verify", "-queryfile", str(asked), "-in", str(given), "-CAfile",
+                 str(authority.certificates))
+        except Refused as why:
+            raise Refused(IMPOSSIBLE, f"the answer of {authority.url} is no stamp of this signature by the authority of "
+                                      f"{authority.certificates}, and is not kept: {why}") from why
     return data
-
-
-def nonce_of(text: str) -> str:
-    return next((line.split(":", 1)[1].strip() for line in text.splitlines() if line.startswith("Nonce:")), "")

@@ -41,11 +41,12 @@ ROWS = [
     Row("office-seal sign --restored", prints="seals: 0\n"),
     Row("office-seal sign --name city --key /etc/office/city.key certificates seals", prints="seals: 2\n"),
     Row("office-seal sign --name city --key /etc/office/city.key --withdrawn", prints="seals: 2\n"),
-    Row("tools/verify seals", like=r"seals: 2, certificates: 2, wrong: 0; last seal: 2, SHA-256 [0-9a-f]{64}\n"),
+    Row("tools/verify seals", like=r"seals: 2, certificates: 2, wrong: 0; office: city; last seal: 2, SHA-256 [0-9a-f]{64}\n"),
     Row("tools/verify --withdrawn", like=r"(note: .*\n){4}seals: 4, certificates: 2, wrong: 0; .*\n"),
     Row("cut -d ' ' -f 1,2", prints=""),
     Row("mv /etc/office/city.new"),
     Row("echo 'STAMP_URL="),
+    Row("echo 'STAMP_CA="),
     Row("runuser -u office -g office-seal", skip="the units make these folders"),
     Row("systemd-run", skip="without systemd"),
 ]

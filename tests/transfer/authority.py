@@ -35,7 +35,7 @@ class Authority:
     def __init__(self, folder: pathlib.Path) -> None:
         folder.mkdir(parents=True)
         self.folder, self.certificate = folder, folder / "ca.pem"
-        self.refuses = self.replays = False
+        self.refuses = self.replays = self.forges = False
         (folder / "conf").write_text(CONFIG.format(folder=folder))
         (folder / "serial").write_text("01\n")
         self.openssl("req", "-x509", "-newkey", "rsa:2048", "-nodes", "-days", "2", "-subj", f"/CN=CA {folder.name}",
@@ -48,7 +48,10 @@ class Authority:
         subprocess.run(["openssl", *words], cwd=self.folder, check=True, capture_output=True)
 
     def reply(self, query: bytes) -> bytes:
-        """The stamp of a query, or of one of its own in its place if it replays."""
+        """The stamp of a query; if it replays that of one of its own; if it forges that of other bytes, nonce alike."""
+        if self.forges:
+            at = query.index(b"\x04\x20") + 2
+            query = query[:at] + bytes(32) + query[at + 32:]
         (self.folder / "query").write_bytes(query)
         if self.replays:
             self.openssl("ts", "-query", "-data", "conf", "-sha256", "-cert", "-out", "query")

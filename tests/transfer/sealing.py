@@ -39,20 +39,25 @@ class Place:
     def public(self, key: pathlib.Path) -> str:
         return " ".join(pathlib.Path(f"{key}.pub").read_text().split()[:2])
 
-    def fetch(self, *words: str) -> Done:
-        return run(SEAL, "fetch", *words, self.fake.address.rpartition(":")[2], self.certificates)
+    def fetch(self, *words: str, seals: pathlib.Path | None = None) -> Done:
+        return run(SEAL, "fetch", *words, self.fake.address.rpartition(":")[2], self.certificates, *([seals] if seals else []))
 
     def sign(self, *words: object, key: pathlib.Path | None = None) -> Done:
         return run(SEAL, "sign", "--name", "city", "--key", key or self.key, *words, self.certificates, self.seals)
 
-    def verify(self, *words: object) -> Done:
-        return run(VERIFY, self.seals, self.signers, *words)
+    def verify(self, *words: object, clock: str = "") -> Done:
+        """Verifies the seals, as somebody does whose clock is as given."""
+        return run(*(["faketime", "-f", clock] if clock else []), VERIFY, self.seals, self.signers, *words)
 
     def close(self, runs: int) -> None:
         """The office closes runs up to this number."""
         for number in range(1, runs + 1):
             self.fake.answers.setdefault(f"/certificates/{number}", (200, certificate(
                 number, [(number, "sent", f"r{number}", 3, digest(b"one"))])))
+
+
+def seals_of(place: Place) -> list[pathlib.Path]:
+    return sorted(it for it in place.seals.iterdir() if not it.name.startswith("."))
 
 
 def seals(folder: pathlib.Path) -> None:
@@ -162,7 +167,10 @@ def of_the_office(place: Place, fake: Fake) -> None:
     judge("the run that comes next is fetched", place.fetch().out == "certificates: 1\n")
     judge("and sealed only with the word", place.sign().status == 1 and place.sign("--restored").out == "seals: 1\n")
     done = place.verify("--office", fake.address)
-    judge("the auditor is told of both texts", done.status == 0 and "certificate 3 has 2 texts" in done.out
+    judge("both texts are wrong to an auditor who knows of no restore", done.status == 1
+          and "WRONG: certificate 3 has 2 texts" in done.out, done)
+    done = place.verify("--office", fake.address, "--restored", "3")
+    judge("and a note to one who does", done.status == 0 and "note: certificate 3 has 2 texts" in done.out
           and "sealed again with another text after a backup was restored" in done.out, done)
 
 
@@ -239,19 +247,32 @@ def stamps(folder: pathlib.Path) -> None:
         done = place.verify("--authority", one.certificate)
         judge("a seal without a stamp is told to whoever asks for stamps", done.status == 1
               and done.out.count("there is no time stamp") == 2 and place.verify().status == 0, done)
-        stamp = lambda url: run(SEAL, "stamp", "--name", "city", "--url", url, place.seals)  # noqa: E731
+        stamp = lambda url, ca=one.certificate: run(SEAL, "stamp", "--name", "city", "--url", url, "--ca", ca, place.seals)  # noqa: E731
         one.refuses = True
         done = stamp(one.url)
         judge("an authority that refuses leaves no stamp", done.status == 3 and not list(place.seals.rglob("*.tsr")), done)
         one.refuses, one.replays = False, True
         done = stamp(one.url)
         judge("the stamp of another query is not taken", done.status == 3 and not list(place.seals.rglob("*.tsr")), done)
-        one.replays = False
+        one.replays, one.forges, other.forges = False, True, True
+        for name, it in (("the authority", one), ("somebody on the way", other)):
+            done = stamp(it.url)
+            judge(f"nor a stamp of other bytes by {name}, though it has the nonce", done.status == 3
+                  and "is not kept" in done.err and not list(place.seals.rglob("*.tsr")), done)
+        one.forges = other.forges = False
+        done = stamp(other.url)
+        judge("nor a right one by somebody on the way", done.status == 3 and not list(place.seals.rglob("*.tsr")), done)
+        for ca in ("", place.folder / "nowhere"):
+            done = stamp(one.url, ca)
+            judge("an office that was set up without STAMP_CA is told what is missing", done.status == 2
+                  and "STAMP_CA" in done.err and not list(place.seals.rglob("*.tsr")), done)
+        place.close(3)
+        judge("and it seals on", place.fetch().status == 0 and place.sign().out == "seals: 1\n")
         judge("an authority that is not there: status 3", stamp("http://127.0.0.1:1/").status == 3)
         done = stamp(one.url)
-        judge("each signature is stamped once", done.out == "stamps: 2\n" and stamp(one.url).out == "stamps: 0\n", done)
+        judge("each signature is stamped once", done.out == "stamps: 3\n" and stamp(one.url, "").out == "stamps: 0\n", done)
         done = place.verify("--authority", one.certificate)
-        judge("the stamps verify", done.status == 0 and "stamped: 2" in done.out and "note: 000001: stamped " in done.out, done)
+        judge("the stamps verify", done.status == 0 and "stamped: 3" in done.out and "note: 000001: stamped " in done.out, done)
         done = place.verify("--authority", other.certificate)
         judge("not by another authority", done.status == 1 and "000001: the time stamp is not" in done.out, done)
         shutil.copy(place.seals / "000002/seal.txt.tsr", place.seals / "000001/seal.txt.tsr")
