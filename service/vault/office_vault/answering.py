@@ -1,6 +1,7 @@
 """What the service answers: it takes objects in, and says which object a record's file is, for nginx to send.
 
-    PUT /vault/SHA256          201 a new object, 200 there already; on the disk in both cases
+    PUT /vault/SHA256          201 a new object, 200 there already; on the disk in both cases. With a line Office-Stored
+                               nginx is sent there instead, and has a gate note it and answer
     GET /vault/limits          the most bytes of an object, and how many bytes fit now
     GET /records/N/files       the files that record N names, as JSON
     GET /records/N/files/K     the K-th of them
@@ -22,6 +23,7 @@ from http.server import BaseHTTPRequestHandler
 
 from office_vault import asking, manifest
 from office_vault.objects import NoRoom, Vault, WrongBytes, stamp_at
+from office_vault.uploads import Often, Quota, Uploads
 
 PUT = re.compile(r"/vault/([0-9a-f]{64})")
 LIMITS = "/vault/limits"
@@ -40,6 +42,7 @@ class Settings:
     most: int
     reserve: int
     internal: str
+    uploads: Uploads
 
 
 class Answered(Exception):
@@ -117,14 +120,32 @@ class Handler(BaseHTTPRequestHandler):
         if not found:
             raise Answered(404, "path")
         length = self.length()
+        is_new = self.receive(found[1], length)
+        if place := self.headers.get("Office-Stored"):
+            # whether somebody had put these bytes in before is not for this client
+            self.say(200, None, X_Accel_Redirect=f"{place}?length={length}")
+        else:
+            self.say(201 if is_new else 200, {"length": length, "sha256": found[1]})
+
+    def receive(self, digest: str, length: int) -> bool:
+        """Takes the bytes in, as one of the uploads of the name that nginx reports; returns whether they are new."""
         settings = self.settings
         try:
-            is_new = settings.vault.receive(found[1], length, self.rfile.read, settings.reserve)
+            with settings.uploads.one(self.headers.get("Office-Name", ""), length, self.unnamed()):
+                return settings.vault.receive(digest, length, self.rfile.read, settings.reserve)
+        except Often as error:
+            raise Answered(429, "often") from error
+        except Quota as error:
+            raise Answered(507, "quota") from error
         except WrongBytes as error:
             raise Answered(400 if str(error) == "body" else 422, str(error)) from error
         except NoRoom as error:
             raise Answered(507, "full") from error
-        self.say(201 if is_new else 200, {"length": length, "sha256": found[1]})
+
+    def unnamed(self) -> int:
+        """Returns how many bytes of this name are in the vault and unnamed, as far as a gate knows."""
+        text = self.headers.get("Office-Unnamed", "")
+        return int(text) if re.fullmatch("[0-9]{1,18}", text) else 0
 
     def length(self) -> int:
         """Returns how many bytes come, by the rules that the office has for its own bodies."""

@@ -12,6 +12,7 @@ from office_vault import checking, manifest, mirroring, service, sweeping
 from office_vault.answering import Settings
 from office_vault.errors import Refused
 from office_vault.objects import NoRoom, Vault
+from office_vault.uploads import Uploads
 
 GIGABYTE = 1 << 30
 
@@ -37,7 +38,8 @@ def put(it: argparse.Namespace) -> int:
 
 def serve(it: argparse.Namespace) -> int:
     """serve a vault behind nginx, at a socket of the file system"""
-    service.serve(Settings(Vault(it.vault), it.office, it.most, it.reserve, it.internal), it.socket)
+    uploads = Uploads(it.at_once, it.unnamed)
+    service.serve(Settings(Vault(it.vault), it.office, it.most, it.reserve, it.internal, uploads), it.socket)
     return 0
 
 
@@ -105,6 +107,8 @@ def words() -> argparse.ArgumentParser:
     one.add_argument("--office", required=True, metavar="HOST:PORT")
     one.add_argument("--most", type=number, default=100 * GIGABYTE, help="bytes of the largest object")
     one.add_argument("--internal", default="/office-vault-objects", help="where nginx has the objects")
+    one.add_argument("--at-once", type=number, default=4, help="uploads of a name at once")
+    one.add_argument("--unnamed", type=number, default=20 * GIGABYTE, help="bytes of a name that no record names")
     room(one)
     one = kind(sweep, "vault")
     asked(one)

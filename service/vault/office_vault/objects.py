@@ -69,7 +69,7 @@ class Vault:
         return self.objects / digest[:2] / digest
 
     def lock(self) -> contextlib.AbstractContextManager[None]:
-        """Returns the lock that a PUT and a sweep hold for a moment, to name, renew or take out an object."""
+        """Returns the lock that a PUT and a sweep hold for a moment, to take room, to name, renew or take out an object."""
         return locked(self.folder / "lock")
 
     def sweeping(self) -> contextlib.AbstractContextManager[None]:
@@ -89,11 +89,10 @@ class Vault:
         The file gets its name after its bytes are on the disk and have that digest, so a kill leaves nothing.
         """
         path = self.path(digest)
-        if self.room(reserve) < length:
-            raise NoRoom
         try:
             fd = os.open(path.parent, os.O_TMPFILE | os.O_RDWR, 0o440)
             try:
+                self.take_room(fd, length, reserve)
                 fill(fd, digest, length, read)
                 is_new = self.name(fd, path)
             finally:
@@ -104,6 +103,14 @@ class Vault:
             raise
         sync_folder(path.parent)
         return is_new
+
+    def take_room(self, fd: int, length: int, reserve: int) -> None:
+        """Takes the room of an object before its first byte, so that objects at once never take the reserve."""
+        with self.lock():
+            if self.room(reserve) < length:
+                raise NoRoom
+            if length:
+                os.posix_fallocate(fd, 0, length)
 
     def name(self, fd: int, path: Path) -> bool:
         """Gives a filled file its name, or a new stamp to the object that is there; returns whether it is new."""

@@ -1,8 +1,10 @@
 """A disk without room: PUTs, sweeps and mirrors say so, and nothing is lost."""
 import contextlib
 import http.client
+import json
 import os
 import pathlib
+import shutil
 import socket
 import subprocess
 import time
@@ -23,7 +25,7 @@ MEGABYTE = 1 << 20
 def small(place: pathlib.Path, size: str) -> Iterator[None]:
     """A file system of its own, of this size."""
     place.mkdir(parents=True)
-    subprocess.run(["mount", "-t", "tmpfs", "-o", f"size={size}", "none", str(place)], check=True)
+    subprocess.run(["mount", "-t", "tmpfs", "-o", f"size={size},nr_inodes=2000", "none", str(place)], check=True)
     try:
         yield
     finally:
@@ -45,8 +47,8 @@ def puts(it: World) -> list[str]:
     return came
 
 
-def filled(it: World, place: pathlib.Path) -> None:
-    """The disk becomes full in the middle of a PUT whose length was said to have room."""
+def filled(it: World, place: pathlib.Path) -> str:
+    """The disk becomes full in the middle of a PUT, which has taken its room. Returns the digest of what came in."""
     with contextlib.suppress(OSError), (place / "filler").open("wb", buffering=0) as file:
         conn = http.client.HTTPConnection("vault")
         conn.sock = socket.socket(socket.AF_UNIX)
@@ -56,14 +58,29 @@ def filled(it: World, place: pathlib.Path) -> None:
         conn.putheader("Content-Length", str(len(data)))
         conn.endheaders()
         conn.send(data[:1000])
-        # by then the service has looked at the room
+        # by then the service has taken the room
         time.sleep(2)
         while True:
             file.write(bytes(4096))
     conn.send(data[1000:])
     answer = conn.getresponse()
-    same("a disk that becomes full meanwhile", (answer.status, answer.read()), (507, b'{"error":"full"}'))
-    judge("leaves nothing", digest(data) not in it.there())
+    same("a disk that becomes full meanwhile takes none of its room", (answer.status, json.loads(answer.read())),
+         (201, {"length": len(data), "sha256": digest(data)}))
+    status, body, _ = it.ask("PUT", f"/vault/{digest(b'x')}", b"x")
+    same("the next one has no room", (status, body), (507, b'{"error":"full"}'))
+    return it.note(data)
+
+
+def crowded(it: World, place: pathlib.Path) -> None:
+    """A disk that has room and no inode."""
+    (place / "many").mkdir()
+    with contextlib.suppress(OSError):
+        for at in range(2000):
+            (place / f"many/{at}").touch()
+    status, body, _ = it.ask("PUT", f"/vault/{digest(b'x')}", b"x")
+    same("without an inode", (status, body), (507, b'{"error":"full"}'))
+    judge("nothing came in", digest(b"x") not in it.there())
+    shutil.rmtree(place / "many")
 
 
 def tried(folder: pathlib.Path) -> None:
@@ -77,18 +94,19 @@ def tried(folder: pathlib.Path) -> None:
             number = it.office.add("D", "".join(Named(one, MEGABYTE, "x").text() for one in came[:-1]).encode(),
                                    set(came[:-1]))
             it.model.things.clear()
-            filled(it, place)
+            came.append(filled(it, place))
             done = it.run(*it.sweep_words())
             judge("a sweep on a full disk says so", done.returncode == 3 and "full" in done.stderr, done.stderr)
             same("and nothing is lost", it.there(), set(came))
             (place / "filler").unlink()
+            crowded(it, place)
             done = it.run("check", it.vault, it.place())
             judge("all are whole", done.returncode == 0, done.stdout)
             for _ in range(2):
                 it.model.now += 101
                 done = it.run(*it.sweep_words())
                 same("with room again it sweeps", (done.returncode, done.stderr), (0, ""))
-            same("what nobody names is gone", it.there(), set(came[:-1]))
+            same("what nobody names is gone", it.there(), set(came[:-2]))
             second = place / "second"
             forked.run(["make", second])
             done = it.run("mirror", it.vault, second, "--reserve", "0")

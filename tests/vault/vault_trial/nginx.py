@@ -60,6 +60,15 @@ def going_out(it: Proxy, world: World, name: str, data: bytes) -> int:
     judge("HEAD has name and length", status == 200 and "filename*=UTF-8''scan%20%C3%9C.tif" in text
           and f"Content-Length: {len(data)}" in text and "nosniff" in text and "no-store" in text
           and "application/octet-stream" in text, text)
+    judge("HEAD has no time of the file, and nothing that stands for one",
+          "Last-Modified" not in text and "ETag" not in text, text)
+    judge("HEAD has the lines of the server", all(line in text for line in proxy.ALWAYS), text)
+    for line in ("If-Modified-Since: Thu, 01 Jan 2099 00:00:00 GMT", "If-None-Match: \"x\"",
+                 "If-Range: Thu, 01 Jan 2099 00:00:00 GMT"):
+        same(f"GET with {line}", it.curl(path, "--header", line, name="reader"), (200, data))
+    seen = {it.curl(path, "--header", f"If-Unmodified-Since: Thu, 01 Jan {year} 00:00:00 GMT", name="reader")[0]
+            for year in (1999, 2099)}
+    judge("no date is compared with that of the file", len(seen) == 1, seen)
     same("a range", it.curl(path, "--range", "299990-299999", name="reader"), (206, data[299990:300000]))
     status, body = it.curl(f"/city/records/{number}/files", name="reader")
     same("the list", (status, json.loads(body)[0]["place"]), (200, "scan Ü.tif"))
@@ -93,6 +102,25 @@ def times(it: Proxy, world: World, folder: pathlib.Path) -> None:
         print(f"{MEGABYTES} MB, turn {turn + 1}: " + ", ".join(f"{what} {it:.1f} s" for what, it in took.items()),
               flush=True)
     same("what comes back is the same", digest((folder / "back").read_bytes()), name)
+
+
+def unreadable(it: Proxy, world: World, name: str, size: int) -> None:
+    """An object that nginx may not read is answered as one that is missing."""
+    number = world.office.add("D", Named(name, size, "x").text().encode(), {name})
+    conf = it.folder / "nginx.conf"
+    conf.write_text(conf.read_text().replace("user root", "user nobody nogroup"))
+    places = [it.folder.parent.parent, it.folder.parent, world.folder]
+    modes = [one.stat().st_mode for one in places]
+    for one in places:
+        one.chmod(0o755)
+    (world.folder / "socket").chmod(0o666)
+    world.vault.chmod(0o700)
+    with it:
+        same("its list", it.curl(f"/city/records/{number}/files", name="reader")[0], 200)
+        same("an object that nginx may not read", it.curl(f"/city/records/{number}/files/1", name="reader"),
+             (503, b'{"error":"object"}'))
+    for one, mode in zip(places, modes):
+        one.chmod(mode)
 
 
 def alone(it: Proxy, world: World, data: bytes) -> None:
@@ -131,6 +159,7 @@ def tried(folder: pathlib.Path) -> None:
             same("a disk without room, with most of the bytes to come",
                  it.curl(f"/city/vault/{'1' * 64}", "--upload-file", folder / "large"), (507, b'{"error":"full"}'))
             world.restart_service("--internal", "/office-vault-objects/city/objects")
+            unreadable(Proxy(folder / "nobody", world.office.port, court.port, 21590, *places), world, digest(data), len(data))
             with Proxy(folder / "alone", world.office.port, court.port, 21580, *places, "office.conf") as one:
                 alone(one, world, data)
             world.service.kill()

@@ -9,6 +9,9 @@ import time
 from vault_trial.places import NGINX
 
 MODULE = "/usr/lib/nginx/modules/ngx_http_js_module.so"
+ALWAYS = [it.split()[1] for it in (NGINX / "server.conf").read_text().splitlines() if it.startswith("add_header")
+          and "$challenge" not in it]
+"""the lines that each answer has"""
 NAMES = {"registrar": "a long one", "reader": "another", "judge": "of the court"}
 
 
