@@ -50,22 +50,20 @@ export const getNewest = (path) => read(path, { "Office-Read": "newest" });
 /** Asks for nothing but the answer's Date, which is heard (clock.js). */
 export const askTime = () => ask("web/icon.svg", "HEAD");
 
-/** The reason that somebody wrote, for the journal of a gate; percent signs make it a line of a head. */
-function reasonLine() {
-  const text = document.getElementById("office-reason")?.value.trim();
-  return text ? { "Office-Reason": encodeURIComponent(text) } : {};
-}
+/** A reason as a line of a head: in percent signs, and with plain spaces, since a gate takes no others. */
+const reasonLine = (reason) => (reason ? { "Office-Reason": encodeURIComponent(reason.trim().replace(/\p{Z}+/gu, " ")) } : {});
 
 /**
  * Sends a request that acts, with a key of its own: the same key again if the same is sent after an answer was lost.
  * @param {string} path
  * @param {string} [body]
- * @param {string} [seen] what was shown of what it acts on: if that is another thing by now, so is the request
+ * @param {{ seen?: string, reason?: string }} [more] what was shown of what it acts on: if that is another thing by now,
+ *   so is the request; and why somebody does this, for the journal of a gate
  */
-export async function post(path, body, seen = "") {
+export async function post(path, body, { seen = "", reason = "" } = {}) {
   const sent = JSON.stringify([path, body ?? "", seen]);
   const key = keyFor(sent);
-  const answer = await ask(path, "POST", body, { "Idempotency-Key": key, ...reasonLine() });
+  const answer = await ask(path, "POST", body, { "Idempotency-Key": key, ...reasonLine(reason) });
   note(sent, key, answer.status);
   return answer;
 }

@@ -20,6 +20,7 @@ const KINDS = {
   code: { label: "fields.code", hint: "fields.codeHint", wrong: "fields.codeWrong", takes: isCode },
   by: { label: "fields.by", hint: "fields.byHint", wrong: "fields.textWrong", takes: isText },
   reason: { label: "fields.reason", hint: "fields.reasonHint", wrong: "fields.textWrong", takes: isText },
+  why: { label: "fields.why", hint: "fields.whyHint", wrong: "fields.whyWrong", takes: isText },
   record: { label: "fields.record", wrong: "fields.numberWrong", takes: isNumber, mode: "numeric" },
   certificate: { label: "fields.certificate", wrong: "fields.numberWrong", takes: isNumber, mode: "numeric" },
   run: { label: "fields.run", wrong: "fields.numberWrong", takes: isNumber, mode: "numeric" },

@@ -9,6 +9,8 @@ import { t } from "./texts.js";
 let isReader = false;
 /** The text that a gate has the office record as `by`, or an empty one if anybody may write any. */
 let signs = "";
+/** The kinds of acts that need a reason at this office. */
+let reasons = new Set();
 
 /** Asks once what this name may do. */
 export async function load() {
@@ -17,7 +19,7 @@ export async function load() {
   isReader = rights?.acts === false;
   signs = rights?.by ?? "";
   document.body.classList.toggle("reader", isReader);
-  byId("reason").hidden = !rights?.reasons?.length;
+  reasons = new Set(rights?.reasons ?? []);
   const left = forbidden(rights);
   for (const kind of KINDS) document.body.classList.toggle(`no-${kind}`, left.has(kind));
   const closed = unread(rights);
@@ -26,6 +28,9 @@ export async function load() {
 
 /** The text that each act names as `by`, if a gate says so: then nobody writes another. */
 export const signedBy = () => signs;
+
+/** Whether one of these kinds of acts needs a reason. */
+export const needsReason = (kinds) => kinds.some((kind) => reasons.has(kind));
 
 /** Whether the view that is seen has forms, and all of them are left out since the name has none of their rights. */
 function isForOthers() {

@@ -53,7 +53,32 @@ def run(it: Browser, proxy: Proxy, office: Office) -> None:
     it.press("#run-resume button")
     same("run: it did what the forecast said", certified(office, 2), second)
     it.settled()
-    judge("run: what comes after it is forecast then", run_shown(it) != second)
+    ended(it, second)
+    it.write(run_open_day=after(1))
+    it.wait(lambda: WORDS["is"] in it.text("#run-forecast"), "no forecast comes after the run")
+    judge("run: what comes after it is forecast once another day is written", run_shown(it) != second)
+
+
+def ended(it: Browser, fates: list[int]) -> None:
+    """After a run the view says what it did, and no sentence says that one is open, or would do something, or did nothing."""
+    destroyed, sent, transferred, skipped = fates
+    same("run: its result is in the place of the forecast", run_shown(it), [destroyed + transferred, sent, skipped])
+    shown = [it.text(f"#run-{name}") for name in ("forecast", "open-outcome", "resume-outcome")]
+    runs = TEXTS["run"]
+    others = [WORDS["is"], runs["tookNone"], *(WORDS["run"][name] for name in ("none", "noneOpen", "isOfNow")),
+              runs["opened"].format(number=2), WORDS["run"]["open"].split("{")[0]]
+    wrong = [words for words in others if any(words in text for text in shown)]
+    same("run: no sentence says open or nothing once it is closed", wrong, [])
+
+
+def quiet_day(it: Browser, proxy: Proxy) -> None:
+    """On a day on which a run would take nothing the forecast says so of a run that has not been."""
+    it.open(f"{proxy.page}#run")
+    it.write(run_open_day=after(-1000))
+    it.wait(lambda: after(-1000) in it.text("#run-forecast"), "the forecast of another day does not come")
+    says("run: of a day on which nothing is due it says what a run would do", it.seen("#run-forecast"),
+         WORDS["run"]["noneOf"].format(day=after(-1000)))
+    judge("run: and not what one did", TEXTS["run"]["tookNone"] not in it.text("#run-forecast"), it.text("#run-forecast"))
 
 
 def lift(it: Browser, proxy: Proxy, office: Office) -> None:
@@ -134,6 +159,7 @@ def tell(office: Office, proxy: Proxy, browser: Browser, folder: pathlib.Path) -
     story = Story(office, proxy, browser, folder)
     run(browser, proxy, office)
     town.renew(proxy, office)
+    quiet_day(browser, proxy)
     lift(browser, proxy, office)
     closing(browser, proxy, story)
     rule(browser, proxy, story)

@@ -1,6 +1,6 @@
 // Many acts in requests of a size that the office takes, one after another. It stops where something was refused or no
 // answer came, and goes on from there if it is asked to: the same request is then the same, with the same key.
-import { MOST_BYTES, bodyOf, bytesOf } from "./acts.js";
+import { MOST_BYTES, bytesOf } from "./acts.js";
 import { fatesOf, jsonOf } from "./outcomes.js";
 import { batches } from "./sending.js";
 
@@ -57,11 +57,11 @@ function unreadPlace(answer, count) {
 const wanted = ({ steps }) => steps.filter(({ fate }) => fate.kind === "unknown" || fate.kind === "left");
 
 /** Sends one request; an act that cannot be read is refused, and the others go without it. The answer, and whether all is well. */
-async function sendOne(batch, post, already) {
+async function sendOne(batch, send, already) {
   const sent = wanted(batch);
   let isWell = true;
   while (sent.length) {
-    const answer = await post("acts", bodyOf(sent.map(({ act }) => act)));
+    const answer = await send(sent.map(({ act }) => act));
     const place = unreadPlace(answer, sent.length);
     if (place < 0) return { answer, isWell: note(batch, sent, answer, already) && isWell };
     sent[place].fate = { kind: "refused", refusal: jsonOf(answer).refused };
@@ -76,16 +76,16 @@ async function sendOne(batch, post, already) {
  * Sends the requests that are not settled, one after another, until one is not well: its answer then, else null. Before
  * each `goesOn` is told how many acts have an answer, and says whether the next request is sent.
  * @param {Batch[]} requests
- * @param {function(string, string): Promise<object>} post
+ * @param {function(object[]): Promise<object>} send
  * @param {number[]} already the refusals which say that what was asked for is so already
  * @param {function({ behind: number, request: number }): boolean} goesOn
  */
-export async function sendRequests(requests, post, already, goesOn) {
+export async function sendRequests(requests, send, already, goesOn) {
   for (const [at, batch] of requests.entries()) {
     if (batch.isSettled) continue;
     const behind = stepsOf(requests).filter(({ fate }) => fate.kind !== "left").length;
     if (!goesOn({ behind, request: at + 1 })) return null;
-    const { answer, isWell } = await sendOne(batch, post, already);
+    const { answer, isWell } = await sendOne(batch, send, already);
     if (!isWell) return answer;
   }
   return null;

@@ -15,6 +15,7 @@ import { holdOn, placeHold, recordEvent } from "./acts.js";
 
 /**
  * @typedef {object} Deed
+ * @property {string[]} acts the kinds of acts that it sends
  * @property {string[]} kinds what it is for
  * @property {Object<string, string>} fields the kind of each of its fields, by its name
  * @property {string[]} [optional] fields that may be empty, which is then null
@@ -33,6 +34,7 @@ const targetOf = ({ kind, number }) => `${kind}:${number}`;
 /** @type {Object<string, Deed>} */
 export const DEEDS = {
   hold: {
+    acts: ["place-hold", "hold-on"],
     kinds: ["record", "aggregation"],
     fields: { code: "code", reason: "reason", by: "by", day: "day" },
     left: ({ status }) => (status === "ended" ? "ended" : ""),
@@ -41,6 +43,7 @@ export const DEEDS = {
     already: [4],
   },
   event: {
+    acts: ["event"],
     kinds: ["record"],
     fields: { occurred: "occurred", by: "by", day: "day" },
     left: unlessHere,
@@ -48,6 +51,7 @@ export const DEEDS = {
     already: [],
   },
   review: {
+    acts: ["review"],
     kinds: ["record"],
     fields: { by: "by", schedule: "nextSchedule", day: "day" },
     optional: ["schedule"],
@@ -56,6 +60,7 @@ export const DEEDS = {
     already: [],
   },
   schedule: {
+    acts: ["set-record-schedule"],
     kinds: ["record"],
     fields: { schedule: "ownSchedule", day: "day" },
     optional: ["schedule"],
@@ -64,6 +69,7 @@ export const DEEDS = {
     already: [],
   },
   receipt: {
+    acts: ["receipt"],
     kinds: ["record"],
     fields: { by: "by", day: "day" },
     left: ({ status, digest, lacks }) => (status !== "sent" ? "notSent" : !digest ? "noDigest" : lacks ? "noFiles" : ""),
@@ -72,6 +78,7 @@ export const DEEDS = {
     already: [19],
   },
   close: {
+    acts: ["close-aggregation"],
     kinds: ["aggregation"],
     fields: { day: "day" },
     isGrave: true,

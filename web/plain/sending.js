@@ -1,5 +1,5 @@
 // Acts that go in several requests, one after another: which of them go together, and what became of each.
-import { MOST_BYTES, bodyOf } from "./acts.js";
+import { MOST_BYTES } from "./acts.js";
 import { fatesOf, jsonOf } from "./outcomes.js";
 
 /** A body stays so much below the limit. */
@@ -57,7 +57,7 @@ function unreadPlace(answer, count) {
 }
 
 /** Sends one list. An act that the office does not read keeps no other one back: the others go without it. */
-async function sendList(list, post) {
+async function sendList(list, send) {
   const sent = [];
   // one after another, since a large file is read whole
   for (const item of list) {
@@ -67,7 +67,7 @@ async function sendList(list, post) {
     else sent.push({ item, act });
   }
   while (sent.length) {
-    const answer = await post("acts", bodyOf(sent.map(({ act }) => act)));
+    const answer = await send(sent.map(({ act }) => act));
     const place = unreadPlace(answer, sent.length);
     if (place < 0) return note(sent, answer);
     sent[place].item.fate = { kind: "refused", refusal: jsonOf(answer).refused };
@@ -80,13 +80,13 @@ async function sendList(list, post) {
  * Sends the items, one request after another, until an answer stops them: that answer, or null. Before each request
  * `goesOn` is told how many items and lists are behind, and says whether the next one is sent.
  */
-export async function sendAll(items, post, goesOn) {
+export async function sendAll(items, send, goesOn) {
   for (const item of items) item.fate = { kind: "left" };
   const lists = batches(items);
   let behind = 0;
   for (const [at, list] of lists.entries()) {
     if (!goesOn({ behind, list: at + 1, lists: lists.length })) return null;
-    const stop = await sendList(list, post);
+    const stop = await sendList(list, send);
     if (stop) return stop;
     behind += list.length;
   }

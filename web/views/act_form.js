@@ -1,14 +1,14 @@
 // Forms that ask for one act each, made from a description: their fields, what is sent, and what is said of the answer.
-import { post } from "../ask.js";
 import { clear, field, onSubmit, untick } from "../fields.js";
 import { asking, byId, failed, made, paragraph, say, told, translate } from "../page.js";
-import { bodyOf } from "../plain/acts.js";
 import { fatesOf } from "../plain/outcomes.js";
+import { forgetReason, reasonFields, senderOf } from "../reasons.js";
 import { t } from "../texts.js";
 
 /**
  * @typedef {object} ActForm
  * @property {string} id the form's id, with which those of its fields begin
+ * @property {string} kind the kind of its act
  * @property {string} words the texts of the form: title, about, unrecorded, submit, done and lost
  * @property {Object<string, string>} fields the kind of each field, by its name
  * @property {function(Object<string, any>): object} act the act of these values; a field that was left empty is null
@@ -27,12 +27,13 @@ function tickOf(id, key) {
 }
 
 /** The parts of a form, without what is around it. */
-export function partsOf({ id, words, fields, sure }) {
+export function partsOf({ id, kind, words, fields, sure }) {
   const places = Object.entries(fields).map(([name, kind]) => made("div", { "data-field": kind, id: `${id}-${name}` }));
   for (const place of places) field(place);
   const hint = (name) => made("p", { class: "hint", "data-text": `${words}.${name}` });
   const button = made("button", { "data-text": `${words}.submit`, ...(sure && { class: "grave" }) });
-  return [hint("about"), hint("unrecorded"), ...places, ...(sure ? [tickOf(id, sure)] : []), button];
+  const more = [...reasonFields(id, [kind]), ...(sure ? [tickOf(id, sure)] : [])];
+  return [hint("about"), hint("unrecorded"), ...places, ...more, button];
 }
 
 /** The values of a form by the names of its fields. */
@@ -54,14 +55,18 @@ function sayFate(place, words, act, answer) {
 
 async function ask(description, values) {
   const { id, words, clears = [], before, after } = description;
-  const place = byId(`${id}-outcome`);
+  const [form, place] = [byId(id), byId(`${id}-outcome`)];
   const act = description.act(named(description, values));
   asking(place);
   const seen = before ? await before(act, place) : "";
   if (seen === null) return;
-  untick(byId(id));
-  const fate = sayFate(place, words, act, await post("acts", bodyOf([act]), seen));
-  if (fate === "done") for (const name of clears) clear(byId(`${id}-${name}`));
+  const fate = sayFate(place, words, act, await senderOf(form, seen)([act]));
+  // a refusal leaves the form as it is, with its ticks and its reason
+  if (["done", "unknown"].includes(fate)) untick(form);
+  if (fate === "done") {
+    for (const name of clears) clear(byId(`${id}-${name}`));
+    forgetReason(form);
+  }
   await after?.(act, fate);
 }
 

@@ -1,10 +1,10 @@
 // The confirmation of what is marked in a list: one request, and what came of each of its acts.
-import { post } from "../ask.js";
 import { untick } from "../fields.js";
 import { asking, failed, link, made, paragraph, quiet, say, tableOf, told } from "../page.js";
 import { MOST_BYTES, bodyOf, bytesOf, confirm, fitting } from "../plain/acts.js";
 import { CONFIRMED_FOR } from "../plain/lists.js";
 import { fatesOf, jsonOf } from "../plain/outcomes.js";
+import { forgetReason, senderOf } from "../reasons.js";
 import { all, t } from "../texts.js";
 import { isAsShown } from "./changes.js";
 
@@ -68,11 +68,14 @@ export async function confirmMarked(list, values, marked) {
   asking(place);
   if (!(await isAsShown(list, marked))) return;
   asking(place, t("due.wait", { count: acts.length }));
-  untick(list.part("confirm"));
-  const answer = await post("acts", body, seenOf(marked));
+  const form = list.part("confirm");
+  const answer = await senderOf(form, seenOf(marked))(acts);
+  const { refused, end } = fatesOf(answer, acts.length);
+  if (end !== "undone" && !refused.size) untick(form);
+  if (end === "answered" && !refused.size) forgetReason(form);
   quiet(place);
   tellFate(list.part("answer"), answer, acts);
   list.part("answer").focus();
-  if (fatesOf(answer, acts.length).end === "undone") return;
+  if (end === "undone") return;
   if (!(await list.open(list.question))) list.part("answer").append(paragraph(t("due.stale")));
 }

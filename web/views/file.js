@@ -10,6 +10,7 @@ import { isText, today } from "../plain/forms.js";
 import { visible } from "../plain/marks.js";
 import { batches, isSettled } from "../plain/sending.js";
 import { manifestOf } from "../plain/vault.js";
+import { askReason, forgetReason } from "../reasons.js";
 import { t } from "../texts.js";
 import { filesIn, placed, saidBy } from "./file_folders.js";
 import { isLeftOut, isVaulted, rowOf, showAnswer, showHead, showValues } from "./file_rows.js";
@@ -240,7 +241,6 @@ async function fileAll(values, ready) {
   if (one.isOne() && !one.fits(ready)) return say(place, "wrong", paragraph(t("vault.one.tooMany")));
   delete place.dataset.unsent;
   quiet(place);
-  untick(byId("file-send"));
   day = values["file-send-day"];
   measure(ready, day);
   stop = new AbortController();
@@ -251,6 +251,10 @@ async function fileAll(values, ready) {
   if (items[0].isAlone || ready.some(isVaulted)) await vault.ask();
   isSending = false;
   refresh();
+  if (items.every(isSettled)) {
+    untick(byId("file-send"));
+    forgetReason(byId("file-send"));
+  }
   sayFates(place, items, answer);
   place.focus();
 }
@@ -260,6 +264,7 @@ async function fileAll(values, ready) {
 export function start() {
   guardPage();
   addPanel("file");
+  askReason(byId("file-send"), ["add-record"]);
   showHead(byId("file-table"));
   for (const id of ["file-choose", "file-folder"]) {
     byId(id).addEventListener("change", ({ target }) => {

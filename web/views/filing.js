@@ -1,9 +1,9 @@
 // What the views File and Import share: acts are sent with their progress, and what became of each is said in words.
-import { post } from "../ask.js";
 import { field } from "../fields.js";
 import { byId, factsOf, grouped, link, made, paragraph, plural, say, sentence, told, translate } from "../page.js";
 import { counted, isSettled, sendAll } from "../plain/sending.js";
 import { whyNot } from "../plain/vault.js";
+import { senderOf } from "../reasons.js";
 import { all, t } from "../texts.js";
 
 const LOOKS = {
@@ -65,6 +65,7 @@ export function addPanel(name) {
  * stopped it, or null.
  */
 export async function send(name, items, changed) {
+  const sender = senderOf(byId(`${name}-send`));
   const bar = byId(`${name}-bar`);
   const stop = byId(`${name}-stop`);
   const held = document.querySelectorAll(`#${name} [data-held]`);
@@ -82,7 +83,7 @@ export async function send(name, items, changed) {
   // a page that is left just now would not learn what became of the acts
   addEventListener("beforeunload", stay);
   hold(true);
-  const answer = await sendAll(items, post, ({ behind, list, lists }) => {
+  const answer = await sendAll(items, sender, ({ behind, list, lists }) => {
     changed();
     bar.value = behind / items.length;
     const words = { behind: grouped(behind), count: grouped(items.length), list, lists };

@@ -18,6 +18,12 @@ export function show(place, ...nodes) {
   place.replaceChildren(...(nodes.length ? [made("p", { class: "label" }, t("forecast.is")), ...nodes] : []));
 }
 
+/** Shows what an act did in the place of what it would do. */
+function showResult(place, ...nodes) {
+  place.removeAttribute("aria-busy");
+  place.replaceChildren(made("p", { class: "label" }, t("forecast.result")), ...nodes);
+}
+
 /** Says that a forecast is being made. */
 export function wait(place) {
   place.setAttribute("aria-busy", "true");
@@ -35,28 +41,29 @@ export function wait(place) {
  * @param {HTMLElement} form
  * @param {HTMLElement} place
  * @param {function(): Promise<Told | null>} make null where it could not be made, which is said then
- * @returns {{ renew: function(): Promise<string | null>, isAsSeen: function(HTMLElement): Promise<boolean> }} `renew`
- *   makes it at once; `isAsSeen` does so too, before the act, and says at a place if it is not what was shown before
+ * @returns {{ renew: function(Node[]?): Promise<string | null>, isAsSeen: function(HTMLElement): Promise<boolean> }} `renew`
+ *   makes it at once, and shows a result in its place where there is one; `isAsSeen` does so too, before the act, and says at a place if it is not what was shown before
  */
 export function forecastOf(form, place, make) {
   let turn = 0;
   let later = 0;
   let seen = null;
-  const renew = async () => {
+  const renew = async (result = []) => {
     const mine = ++turn;
     clearTimeout(later);
     wait(place);
     const told = await make();
     if (mine !== turn) return seen;
     seen = told?.seen ?? null;
-    show(place, ...(told?.nodes ?? [paragraph(t("forecast.failed"))]));
+    if (result.length) showResult(place, ...result);
+    else show(place, ...(told?.nodes ?? [paragraph(t("forecast.failed"))]));
     return seen;
   };
   const wrote = () => {
     turn += 1;
     clearTimeout(later);
     place.setAttribute("aria-busy", "true");
-    later = setTimeout(renew, STILL);
+    later = setTimeout(() => renew(), STILL);
   };
   for (const kind of ["input", "change"]) form.addEventListener(kind, ({ target }) => target.type === "checkbox" || wrote());
   const isAsSeen = async (outcome) => {

@@ -1,12 +1,12 @@
 // The form that places a hold, with what it covers at once: one array of acts.
-import { post } from "../ask.js";
 import { clear, mark, onSubmit, untick } from "../fields.js";
 import { asking, byId, failed, made, paragraph, say, told } from "../page.js";
-import { bodyOf, placeHold } from "../plain/acts.js";
+import { placeHold } from "../plain/acts.js";
 import { isTarget } from "../plain/forms.js";
 import { actsOf } from "../plain/marked_acts.js";
 import { requestsOf, sendRequests } from "../plain/many.js";
 import { fatesOf } from "../plain/outcomes.js";
+import { forgetReason, senderOf } from "../reasons.js";
 import { putNumbers } from "../refs.js";
 import { t } from "../texts.js";
 import { sayAnswers } from "./marked_answers.js";
@@ -55,26 +55,33 @@ async function add() {
   return null;
 }
 
+/** Takes the ticks and the reason of what is done off the form, and its code into the others. */
+function finish(code, carry) {
+  untick(byId(FORM));
+  forgetReason(byId(FORM));
+  carry(code);
+}
+
 /** Places the hold alone, and says what came of it. */
 async function placeAlone(values, place, carry) {
   const act = placeHold(...values);
-  const answer = await post("acts", bodyOf([act]));
+  const answer = await senderOf(byId(FORM))([act]);
   const { answers, end } = fatesOf(answer, 1);
   if (end === "unknown") say(place, "unknown", ...told(answer), paragraph(t("holds.lostPlace")));
   else if (answers[0]?.done) say(place, "done", paragraph(t("holds.placed", { hold: act.code })), ...told(answer));
   else failed(place, answer);
-  if (end === "answered" && answers[0].done) carry(act.code);
+  if (end === "answered" && answers[0].done) finish(act.code, carry);
 }
 
 /** Sends what has no answer yet of a hold with its targets, and says what came of it. */
 async function send(requests, place, code, carry) {
   asking(place);
-  const answer = await sendRequests(requests, post, [4], () => true);
+  const answer = await sendRequests(requests, senderOf(byId(FORM)), [4], () => true);
   const isWhole = sayAnswers(place, { deed: "hold", requests, answer, again: () => send(requests, place, code, carry) });
   if (!isWhole) return;
   targets = [];
   showTargets();
-  carry(code);
+  finish(code, carry);
 }
 
 async function ask(values, carry) {
@@ -83,7 +90,6 @@ async function ask(values, carry) {
   const all = own && !targets.some((it) => isSame(it, own)) ? [...targets, own] : targets;
   const [day, code, reason, by] = ["day", "code", "reason", "by"].map((name) => values[`${FORM}-${name}`]);
   asking(place);
-  untick(byId(FORM));
   if (!all.length) return placeAlone([day, code, reason, by], place, carry);
   const requests = requestsOf(actsOf("hold", all, { day, code, reason, by, isThere: false }));
   await send(requests, place, code, carry);

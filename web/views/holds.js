@@ -1,10 +1,10 @@
 // Holds: shows one, places one, puts a target on, takes one off, lifts it. No path shows a hold: the catalogue does.
-import { post } from "../ask.js";
 import { mark, onSubmit, untick } from "../fields.js";
 import { asking, byId, failed, made, paragraph, say, told } from "../page.js";
-import { bodyOf, holdOff, holdOn, liftHold } from "../plain/acts.js";
+import { holdOff, holdOn, liftHold } from "../plain/acts.js";
 import { isCode } from "../plain/forms.js";
 import { fatesOf } from "../plain/outcomes.js";
+import { askReason, forgetReason, senderOf } from "../reasons.js";
 import { t } from "../texts.js";
 import * as placing from "./hold_place.js";
 import * as shown from "./hold_shown.js";
@@ -43,25 +43,32 @@ const FORMS = {
   },
 };
 
+/** The kinds of acts that each form of the view may ask for. */
+const KINDS = { "hold-place": ["place-hold", "hold-on"], "hold-on": ["hold-on"], "hold-off": ["hold-off"], "hold-lift": ["lift-hold"] };
+
 /** Asks for one act, and says what came of it. */
 async function ask(name, values) {
-  const place = byId(`${name}-outcome`);
+  const [form, place] = [byId(name), byId(`${name}-outcome`)];
   const { act, done, lost, after, isAsSeen } = FORMS[name];
   const asked = act(values);
   asking(place);
-  untick(byId(name));
-  if (isAsSeen && !(await isAsSeen(place))) return;
-  const answer = await post("acts", bodyOf([asked]));
+  // a tick is for what was shown when it was made
+  if (isAsSeen && !(await isAsSeen(place))) return untick(form);
+  const answer = await senderOf(form)([asked]);
   const { answers, end } = fatesOf(answer, 1);
   if (end === "unknown") say(place, "unknown", ...told(answer), paragraph(t(lost)));
   else if (answers[0]?.done) say(place, "done", paragraph(done(asked)), ...told(answer));
   else failed(place, answer);
-  if (end === "answered" && answers[0].done) after?.(asked);
+  const isDone = end === "answered" && Boolean(answers[0].done);
+  if (isDone || end === "unknown") untick(form);
+  if (isDone) forgetReason(form);
+  return isDone ? after?.(asked) : null;
 }
 
 export function start() {
   shown.start();
   placing.start((code) => carry(code, ["hold-on"]));
+  for (const [name, kind] of Object.entries(KINDS)) askReason(byId(name), kind);
   for (const name of Object.keys(FORMS)) onSubmit(byId(name), (values) => ask(name, values));
   for (const form of ["hold-on", "hold-off"]) {
     const kinds = ["class", "aggregation", "record"].map((kind) => made("option", { value: kind }, t(`fields.kinds.${kind}`)));

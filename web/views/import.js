@@ -5,6 +5,7 @@ import { addRecord, bytesOf } from "../plain/acts.js";
 import { today } from "../plain/forms.js";
 import { visible } from "../plain/marks.js";
 import { batches, isSettled } from "../plain/sending.js";
+import { askReason, forgetReason } from "../reasons.js";
 import { NAMES } from "../sheet/columns.js";
 import { RECORDS, formOf } from "../sheet/kinds.js";
 import { glimpsed, turned } from "../sheet/turning.js";
@@ -137,6 +138,7 @@ function refresh() {
   byId("import-heading").textContent = visible(sheet.name);
   if (!sheet.found) return;
   preview.take(rows());
+  askReason(byId("import-send"), sheet.kind === RECORDS ? [RECORDS] : rows().flatMap(({ act }) => (act ? [act.act] : [])));
   showTotals();
 }
 
@@ -240,7 +242,6 @@ async function importAll(values, ready) {
   const place = byId("import-send-outcome");
   if (!ready.length) return say(place, "wrong", paragraph(t("import.nothing")));
   quiet(place);
-  untick(byId("import-send"));
   day = values["import-send-day"];
   reading.remember(sheet.found, sheet.kind);
   isSending = true;
@@ -250,6 +251,10 @@ async function importAll(values, ready) {
   const answer = await (isActs ? acts.sendActs(open, sheet.numbers, progressed) : send("import", ready, progressed));
   isSending = false;
   progressed();
+  if (ready.every(isSettled)) {
+    untick(byId("import-send"));
+    forgetReason(byId("import-send"));
+  }
   sayFates(place, ready, answer, isActs ? acts.PART : "filing");
   const wrong = rows().filter((row) => row.wrong.length).length;
   if (wrong) place.append(paragraph(plural("import.leftOut", wrong)));

@@ -1,6 +1,7 @@
 // The parts that each list has: filters, what is done with all rows, the table and the confirmation.
 import { field } from "../fields.js";
 import { byId, made, translate } from "../page.js";
+import { askReason } from "../reasons.js";
 
 /** Puts these parts into the list of the view of this name. Their ids begin with that name. */
 export function addParts(name, filters) {
@@ -42,6 +43,7 @@ export function addParts(name, filters) {
     panel(id, legend, outcome),
   );
   for (const it of place.querySelectorAll("[data-field]")) field(it);
+  askReason(byId(id("confirm")), ["confirm"]);
   translate(place);
 }
 

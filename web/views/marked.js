@@ -1,11 +1,11 @@
 // The bar "With what is marked": a deed is chosen, its form shows what it will do, and all of it is sent.
-import { post } from "../ask.js";
 import { part } from "../catalogue.js";
 import { mark, onSubmit, untick } from "../fields.js";
 import { made, paragraph, plural, quiet, say } from "../page.js";
 import { DEEDS, actsOf, deedsFor, sorted } from "../plain/marked_acts.js";
 import { MOST_ACTS, requestsOf, sendRequests, stepsOf } from "../plain/many.js";
 import { receiptsOf } from "../plain/receipts.js";
+import { forgetReason, senderOf } from "../reasons.js";
 import { t } from "../texts.js";
 import { sayAnswers } from "./marked_answers.js";
 import { deedForm } from "./marked_form.js";
@@ -30,6 +30,7 @@ export class MarkedBar {
   /** The deed that is chosen, or an empty text; the requests that were begun last. */
   deed = "";
   #requests = [];
+  #sender = null;
   #forms = new Map();
   #turn = 0;
 
@@ -133,7 +134,7 @@ export class MarkedBar {
     if (this.marks.before && !(await this.marks.before(taken))) return null;
     const isThere = this.#isInForce(hold);
     this.#requests = requestsOf(actsOf(deed, taken, { ...this.#named(deed, values), isThere }));
-    untick(this.#forms.get(deed).form);
+    this.#sender = senderOf(this.#forms.get(deed).form);
     return this.#send(deed);
   }
 
@@ -143,7 +144,7 @@ export class MarkedBar {
     const goesOn = working(this.node, requests);
     let answer;
     try {
-      answer = await sendRequests(requests, post, DEEDS[deed].already, goesOn);
+      answer = await sendRequests(requests, this.#sender, DEEDS[deed].already, goesOn);
     } finally {
       goesOn.end();
     }
@@ -157,6 +158,8 @@ export class MarkedBar {
   /** Closes a form whose deed is done, and takes what is of this one deed alone out of it. */
   #finish(deed) {
     const { form, list } = this.#forms.get(deed);
+    untick(form);
+    forgetReason(form);
     for (const name of ["code", "reason", "occurred", "schedule"]) {
       const input = document.getElementById(`${form.id}-${name}`);
       if (input) {

@@ -3,6 +3,8 @@ import { field } from "../fields.js";
 import { made, paragraph } from "../page.js";
 import { visible } from "../plain/marks.js";
 import { DEEDS } from "../plain/marked_acts.js";
+import { reasonFields } from "../reasons.js";
+import { needsReason } from "../rights.js";
 import { t } from "../texts.js";
 
 /** What the office does not record of each deed: the words of the forms for one of these acts. */
@@ -42,8 +44,8 @@ function listOf(id) {
  * Shows of the hold whose code is written what the catalogue has of it: one that is in force is not placed anew, so
  * neither a reason nor a name is asked for.
  */
-function holdShower(told, places) {
-  const more = [places.reason, places.by];
+function holdShower(told, places, why) {
+  const more = [places.reason, places.by, ...(needsReason(["hold-on"]) ? [] : why)];
   return (hold) => {
     const isThere = hold !== null && hold.lifted === null;
     const key = isThere ? "marked.hold.there" : "marked.hold.lifted";
@@ -59,18 +61,19 @@ function holdShower(told, places) {
  *   list: HTMLTextAreaElement | undefined, showHold: function(object | null): void }}
  */
 export function deedForm(id, deed) {
-  const { fields, isGrave } = DEEDS[deed];
+  const { fields, isGrave, acts } = DEEDS[deed];
   const places = Object.fromEntries(Object.entries(fields).map(([name, kind]) => [name, fieldOf(id, name, kind)]));
   const pasted = deed === "receipt" ? listOf(id) : null;
   const submit = made("button", isGrave ? { class: "grave", id: `${id}-submit` } : { id: `${id}-submit` });
   const close = made("button", { type: "button", class: "quiet", id: `${id}-back` }, t("marked.back"));
   const preview = made("div", { class: "preview", id: `${id}-preview` });
   const told = made("div", { class: "hold-there", role: "status" });
-  const parts = [...(pasted ? [pasted.place] : []), ...Object.values(places), ...(isGrave ? [tickOf(id, deed)] : [])];
+  const why = reasonFields(id, acts);
+  const parts = [...(pasted ? [pasted.place] : []), ...Object.values(places), ...why, ...(isGrave ? [tickOf(id, deed)] : [])];
   const legend = made("legend", {}, t(`marked.${deed}.title`));
   const hints = [t(`marked.${deed}.about`), t(UNRECORDED[deed])].map((words) => made("p", { class: "hint" }, words));
   const buttons = made("div", { class: "deed-buttons" }, submit, close);
   const form = made("form", { id, class: "deed" }, made("fieldset", {}, legend, ...hints, told, ...parts), preview, buttons);
   const [first] = form.querySelectorAll("textarea, input");
-  return { form, preview, submit, close, first, list: pasted?.list, showHold: holdShower(told, places) };
+  return { form, preview, submit, close, first, list: pasted?.list, showHold: holdShower(told, places, why) };
 }

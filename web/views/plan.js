@@ -1,5 +1,5 @@
 // The filing plan: schedules, classes and aggregations, and what classes, aggregations and records get of them later.
-import { clear } from "../fields.js";
+import { clear, untick } from "../fields.js";
 import { byId, made, sentence } from "../page.js";
 import { dueDay, LONGEST } from "../plain/days.js";
 import { isDay, isNumber } from "../plain/forms.js";
@@ -12,6 +12,7 @@ const FORMS = {
   schedules: [
     {
       id: "plan-schedule",
+      kind: "add-schedule",
       words: "plan.schedule",
       fields: {
         code: "scheduleCode",
@@ -30,6 +31,7 @@ const FORMS = {
   classes: [
     {
       id: "plan-class",
+      kind: "add-class",
       words: "plan.class",
       fields: { code: "classCode", title: "title", schedule: "schedule", day: "day" },
       act: (members) => ({ act: "add-class", ...members }),
@@ -37,6 +39,7 @@ const FORMS = {
     },
     {
       id: "plan-rule",
+      kind: "set-class-schedule",
       words: "plan.rule",
       fields: { class: "class", schedule: "schedule", day: "day" },
       act: (members) => ({ act: "set-class-schedule", ...members }),
@@ -47,6 +50,7 @@ const FORMS = {
   aggregations: [
     {
       id: "plan-aggregation",
+      kind: "add-aggregation",
       words: "plan.aggregation",
       fields: { ref: "ref", title: "title", parent: "parent", class: "maybeClass", day: "day" },
       act: (members) => ({ act: "add-aggregation", ...members, parent: members.parent && Number(members.parent) }),
@@ -54,6 +58,7 @@ const FORMS = {
     },
     {
       id: "plan-close",
+      kind: "close-aggregation",
       words: "plan.close",
       fields: { aggregation: "aggregation", day: "day" },
       act: ({ day, aggregation }) => ({ act: "close-aggregation", day, aggregation: Number(aggregation) }),
@@ -65,12 +70,14 @@ const FORMS = {
   changes: [
     {
       id: "plan-reclassify",
+      kind: "reclassify",
       words: "plan.reclassify",
       fields: { kind: "classified", number: "number", class: "ownClass", day: "day" },
       act: (it) => ({ act: "reclassify", day: it.day, target: `${it.kind}:${it.number}`, class: it.class }),
     },
     {
       id: "plan-own",
+      kind: "set-record-schedule",
       words: "plan.own",
       fields: { record: "record", schedule: "ownSchedule", day: "day" },
       act: ({ day, record, schedule }) => ({ act: "set-record-schedule", day, record: Number(record), schedule }),
@@ -127,6 +134,8 @@ export function show(words) {
   const input = byId("plan-close-aggregation");
   clear(input);
   input.value = number;
+  // a tick is for what was shown when it was made
+  untick(byId("plan-close"));
   byId("plan-close").scrollIntoView({ block: "center" });
   return forecast.renew("close");
 }

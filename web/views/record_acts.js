@@ -1,6 +1,7 @@
 // What else is recorded of a record beside its event: a review, a receipt, a schedule or a class of its own.
 import { clear } from "../fields.js";
 import { byId, made, paragraph, quiet, say, tableOf, translate } from "../page.js";
+import { forgetReason } from "../reasons.js";
 import { all, t } from "../texts.js";
 import { begin, partsOf } from "./act_form.js";
 import { differences } from "./changes.js";
@@ -12,6 +13,7 @@ let subject = null;
 const FORMS = [
   {
     id: "record-review",
+    kind: "review",
     words: "recordActs.review",
     fields: { schedule: "nextSchedule", day: "day", by: "by" },
     act: ({ day, schedule, by }) => ({ act: "review", day, record: subject, schedule, by }),
@@ -21,6 +23,7 @@ const FORMS = [
   },
   {
     id: "record-schedule",
+    kind: "set-record-schedule",
     words: "recordActs.schedule",
     fields: { schedule: "ownSchedule", day: "day" },
     act: ({ day, schedule }) => ({ act: "set-record-schedule", day, record: subject, schedule }),
@@ -29,6 +32,7 @@ const FORMS = [
   },
   {
     id: "record-class",
+    kind: "reclassify",
     words: "recordActs.class",
     fields: { class: "ownClass", day: "day" },
     act: (it) => ({ act: "reclassify", day: it.day, target: `record:${subject}`, class: it.class }),
@@ -37,6 +41,7 @@ const FORMS = [
   },
   {
     id: "record-receipt",
+    kind: "receipt",
     words: "recordActs.receipt",
     fields: { digest: "digest", day: "day", by: "by" },
     act: ({ day, digest, by }) => ({ act: "receipt", day, record: subject, digest: digest.toLowerCase(), by }),
@@ -64,6 +69,7 @@ export function offer({ number, status }) {
   subject = number;
   for (const { id, clears } of FORMS) {
     for (const name of clears) clear(byId(`${id}-${name}`));
+    forgetReason(byId(id));
     quiet(byId(`${id}-outcome`));
     byId(`${id}-part`).open = false;
   }

@@ -1,9 +1,9 @@
 // The form of the view of a record that records the record's event: the day on which it occurred.
-import { post } from "../ask.js";
 import { clear, onSubmit, untick } from "../fields.js";
 import { asking, byId, failed, paragraph, quiet, say, told } from "../page.js";
-import { bodyOf, recordEvent } from "../plain/acts.js";
+import { recordEvent } from "../plain/acts.js";
 import { fatesOf } from "../plain/outcomes.js";
+import { askReason, forgetReason, senderOf } from "../reasons.js";
 import { t } from "../texts.js";
 
 /** The record that the form is for, by its number. */
@@ -19,6 +19,7 @@ export function offer({ number, status }, rule) {
   subject = number;
   byId("record-event-part").open = !rule || rule.trigger === "event";
   clear(byId("record-event-occurred"));
+  forgetReason(byId("record-event"));
   quiet(byId("record-event-outcome"));
 }
 
@@ -36,9 +37,11 @@ function sayFate(place, act, answer) {
 async function ask(values, readAnew) {
   const place = byId("record-event-outcome");
   const act = recordEvent(values["record-event-day"], subject, values["record-event-occurred"], values["record-event-by"]);
+  const form = byId("record-event");
   asking(place);
-  untick(byId("record-event"));
-  const fate = sayFate(place, act, await post("acts", bodyOf([act])));
+  const fate = sayFate(place, act, await senderOf(form)([act]));
+  if (["done", "unknown"].includes(fate)) untick(form);
+  if (fate === "done") forgetReason(form);
   // another record is shown by now, or nothing was done
   if (subject !== act.record || fate === "undone") return;
   const due = await readAnew();
@@ -48,5 +51,6 @@ async function ask(values, readAnew) {
 
 /** Starts the form. `readAnew` reads the record that is shown once more: what is said of its due day, or null where it could not be read. */
 export function start(readAnew) {
+  askReason(byId("record-event"), ["event"]);
   onSubmit(byId("record-event"), (values) => ask(values, readAnew));
 }

@@ -1,12 +1,13 @@
 // Runs: open one, carry it out, look for one by its number.
 import { get, post } from "../ask.js";
 import { onSubmit, untick } from "../fields.js";
-import { asking, byId, details, factsOf, failed, link, paragraph, quiet, say, told } from "../page.js";
-import { bodyOf, openRun } from "../plain/acts.js";
+import { asking, byId, details, factsOf, failed, link, made, paragraph, quiet, say, told } from "../page.js";
+import { openRun } from "../plain/acts.js";
 import { read } from "../plain/certificates.js";
 import { isNumber } from "../plain/forms.js";
 import { visible } from "../plain/marks.js";
 import { fatesOf, isMissing, jsonOf } from "../plain/outcomes.js";
+import { askReason, forgetReason, reasonOf, senderOf } from "../reasons.js";
 import { t } from "../texts.js";
 import * as forecast from "./run_forecast.js";
 
@@ -15,43 +16,59 @@ const certificateLink = (number) => link(`#certificate?number=${number}`, t("run
 /** Opens a run, and says its number, or why not, or that it is unknown. */
 async function open(values) {
   const place = byId("run-open-outcome");
+  const form = byId("run-open");
   asking(place);
-  untick(byId("run-open"));
-  const answer = await post("acts", bodyOf([openRun(values["run-open-day"], values["run-open-by"])]));
+  const answer = await senderOf(form)([openRun(values["run-open-day"], values["run-open-by"])]);
   const { answers, end } = fatesOf(answer, 1);
   const number = answers[0]?.number;
+  if (number || end === "unknown") untick(form);
   if (end === "unknown") say(place, "unknown", ...told(answer), paragraph(t("run.lostOpen")));
   else if (number) {
+    forgetReason(form);
     say(place, "done", paragraph(t("run.opened", { number })), ...told(answer));
     await forecast.opened(number, values["run-open-day"]);
   } else failed(place, answer);
 }
 
-/** What a closed run did, by its certificate: how many records it ended, sent and skipped. */
+const COUNTS = ["ended", "sent", "skipped"];
+
+/** What a closed run did, by its certificate: how many records it ended, sent and skipped; in words, and as its result. */
 async function countsOf(number) {
   const answer = await get(`certificates/${number}`);
-  if (answer.status !== 200) return [paragraph(t("run.countsUnread")), ...told(answer)];
+  if (answer.status !== 200) return { counts: [paragraph(t("run.countsUnread")), ...told(answer)], result: [] };
   const certificate = read(answer.text);
-  const counts = ["ended", "sent", "skipped"];
-  const facts = factsOf(counts.map((name) => [t(`run.counts.${name}`), visible(certificate[name] ?? "")]));
-  return counts.every((name) => certificate[name] === "0") ? [facts, paragraph(t("run.tookNone"))] : [facts];
+  const facts = factsOf(COUNTS.map((name) => [t(`run.counts.${name}`), visible(certificate[name] ?? "")]));
+  const none = COUNTS.every((name) => certificate[name] === "0") ? [paragraph(t("run.tookNone"))] : [];
+  return { counts: [facts, ...none], result: [paragraph(t("forecast.run.did", { number })), tilesOf(certificate), ...none.map((it) => it.cloneNode(true))] };
+}
+
+/** The counts of a certificate as the forecast had its own. */
+function tilesOf(certificate) {
+  const tile = (name) => made("div", {}, made("dt", {}, t(`run.counts.${name}`)), made("dd", {}, visible(certificate[name] ?? "")));
+  return made("dl", { class: "totals", "aria-label": t("forecast.result") }, ...COUNTS.map(tile));
 }
 
 /** Carries the open run out, if it would do what was shown of it. */
 async function resume() {
   const place = byId("run-resume-outcome");
+  const form = byId("run-resume");
   asking(place);
-  untick(byId("run-resume"));
-  if (!(await forecast.isAsSeen(place))) return;
-  const answer = await post("run/resume");
+  // a tick is for what was shown when it was made
+  if (!(await forecast.isAsSeen(place))) return untick(form);
+  const answer = await post("run/resume", undefined, { reason: reasonOf(form, ["resume"]) });
   const body = jsonOf(answer);
+  const isUndone = Boolean(body?.refused) || fatesOf(answer, 0).end === "undone";
+  if (!isUndone) untick(form);
   if (body?.certificate) {
+    forgetReason(form);
     const number = body.certificate;
-    const counts = await countsOf(number);
+    const { counts, result } = await countsOf(number);
+    // that it is open is no longer so
+    quiet(byId("run-open-outcome"));
     say(place, "done", paragraph(t("run.resumed", { number })), ...counts, paragraph(certificateLink(number)), ...told(answer));
-    await forecast.ended(number);
+    await forecast.ended(number, result);
   } else {
-    if (body?.refused || fatesOf(answer, 0).end === "undone") failed(place, answer);
+    if (isUndone) failed(place, answer);
     else say(place, "unknown", ...told(answer), paragraph(t("run.lostResume")));
     await forecast.ended();
   }
@@ -73,6 +90,8 @@ async function find(number) {
 
 export function start() {
   forecast.start();
+  askReason(byId("run-open"), ["open-run"]);
+  askReason(byId("run-resume"), ["resume"]);
   onSubmit(byId("run-open"), open);
   onSubmit(byId("run-resume"), resume);
   onSubmit(byId("run-form"), (values) => {

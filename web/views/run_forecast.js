@@ -69,6 +69,12 @@ function limits(count) {
   return paragraph(lines.join(" "), "hint");
 }
 
+/** That a run would dispose of nothing: the open one, one of today or one of another day. */
+function noneWords(day) {
+  if (open) return t("forecast.run.noneOpen");
+  return day === today() ? t("forecast.run.none") : t("forecast.run.noneOf", { day });
+}
+
 /** Asks what a run would do, by the list of its day. */
 async function make() {
   if (open === null) {
@@ -86,7 +92,7 @@ async function make() {
   const key = open ? "forecast.run.open" : "forecast.run.day";
   const head = made("p", {}, t(key, { day, number: open?.number ?? "" }));
   const seen = JSON.stringify([open?.number ?? null, day, rows.map((row) => [row.record, row.fate])]);
-  if (!rows.length) return { seen, nodes: [head, paragraph(t("run.tookNone")), limits(there.count)] };
+  if (!rows.length) return { seen, nodes: [head, paragraph(noneWords(day)), limits(there.count)] };
   const gone = totals.destroy + totals.end;
   const grave = gone ? [paragraph(plural("forecast.run.grave", gone), "grave")] : [];
   return { seen, nodes: [head, totalsOf(totals), ...grave, classesTable(classes), limits(there.count), listOf(rows)] };
@@ -112,9 +118,9 @@ export function opened(number, day) {
   return told.renew();
 }
 
-/** Notes that a run is carried out and closed, or is perhaps. */
-export function ended(number = 0) {
+/** Notes that a run is carried out and closed, or is perhaps, and shows its result in the place of what it would do. */
+export function ended(number = 0, result = []) {
   closed = Math.max(closed, number);
   open = null;
-  return told.renew();
+  return told.renew(result);
 }

@@ -6,6 +6,8 @@ import time
 from dataclasses import dataclass
 from typing import Any, NamedTuple
 
+from selenium.webdriver.common.by import By
+
 from gate_trial.base import filing
 from gate_trial.browsing import Browser, texts
 from gate_trial.judging import judge, same
@@ -22,6 +24,9 @@ const link = [...document.querySelectorAll("#due-table tbody a")].find((it) => i
 const box = link.closest("tr").querySelector("input[type=checkbox]");
 if (!box.checked) box.click();
 """
+# the kinds of acts that need a reason here
+NEEDED = ("lift-hold", "set-record-schedule", "reclassify")
+REASON = "why it is so"
 SENT_CONTENT = b"what the archive gets"
 
 
@@ -110,6 +115,9 @@ def asked_for(it: Browser, deed: Deed) -> str:
     for field, value in deed.chosen.items():
         it.choose(f"#{deed.form}-{field}", value)
     it.write(**{f"{deed.form}-{field}": value for field, value in deed.fields.items()})
+    reason = f"#{deed.form}-why"
+    if it.driver.find_elements(By.CSS_SELECTOR, reason):
+        it.write(**{reason[1:]: REASON})
     # what an act would do is shown once nobody writes any more
     time.sleep(0.4)
     it.settled()
@@ -143,6 +151,7 @@ def done(it: Browser, role: str, kind: str, told: str, outcome: str, world: Worl
     kinds = [one["act"] for one in asked.get("acts", [])] or ["resume"]
     same(f"{name}: the journal", (asked["name"], set(kinds), answered["of"], answered["status"]),
          (role, {kind}, asked["line"], 200))
+    same(f"{name}: the journal has a reason if it needs one", asked.get("reason"), REASON if kinds[0] in NEEDED else None)
     judge(f"{name}: the office", all("refused" not in one for one in answered.get("answers", [])), answered)
     it.picture(f"done-{kind}")
 

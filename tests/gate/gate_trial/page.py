@@ -8,6 +8,7 @@ import subprocess
 
 from selenium.webdriver.common.by import By
 
+from gate_trial import reasons
 from gate_trial.base import SETTINGS, filing, plan
 from gate_trial.browsing import LANGUAGES, Browser, texts
 from gate_trial.deeds import Stage, Stages, all_done, all_forged, by_form
@@ -67,11 +68,12 @@ ACTING = {"plan-schedule": "add-schedule", "plan-class": "add-class", "plan-rule
 
 
 def tried(folder: pathlib.Path) -> None:
-    world = World(folder / "world", SETTINGS)
+    settings = SETTINGS + reasons.NAMES + reasons.RULE
+    world = World(folder / "world", settings)
     catalogues = folder / "catalogues"
     catalogues.mkdir(parents=True)
-    proxy = Proxy(folder / "nginx", "gated.conf", list(ROLES), world.place, world.port, catalogues / "now")
-    world.settings.write_text(f"site {proxy.here}\nzone UTC\n" + SETTINGS)
+    proxy = Proxy(folder / "nginx", "gated.conf", [*ROLES, reasons.NAME], world.place, world.port, catalogues / "now")
+    world.settings.write_text(f"site {proxy.here}\nzone UTC\n" + settings)
     world.start_office()
     world.start_gate()
     world.place.chmod(0o666)
@@ -81,6 +83,7 @@ def tried(folder: pathlib.Path) -> None:
     for role in os.environ.get("ROLES", " ".join(ROLES)).split():
         for language in os.environ.get("SPOKEN", " ".join(LANGUAGES)).split():
             signed_in(world, proxy, role, language, stages.stage())
+    reasons.tried(world, proxy, stages.stage(), folder)
     monitor(proxy)
     judge("the chain holds", world.check().returncode == 0, world.check().stderr)
     proxy.stop()
