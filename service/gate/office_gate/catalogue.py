@@ -57,6 +57,10 @@ class Catalogue:
         self.seen = ""
         self.found = Aggregations()
 
+    def now(self) -> Path | None:
+        """Returns the folder of the catalogue that was read last, or None if there is none."""
+        return Path(self.seen) if self.seen else None
+
     def read(self) -> tuple[Aggregations, bool]:
         """Returns what is known, and whether it is new."""
         if self.folder is None:

@@ -10,6 +10,7 @@ from dataclasses import dataclass, field
 
 from office_gate import body, deciding, settings
 from office_gate.access import Access
+from office_gate.acts_index import ActsIndex
 from office_gate.body import Json
 from office_gate.catalogue import Aggregations, Catalogue
 from office_gate.catching import catch_up
@@ -22,6 +23,7 @@ from office_gate.facts import Facts
 from office_gate.journal import Journal
 from office_gate.metrics import Metrics
 from office_gate.office import UNKNOWN, Answer, Office
+from office_gate.own_catalogue import OwnCatalogues
 from office_gate.scopes import Asking, Scopes
 from office_gate.turns import AtOnce, Turns
 
@@ -59,6 +61,8 @@ class Gate:
     facts: Facts
     catalogue: Catalogue
     office: Office
+    index: ActsIndex
+    own: OwnCatalogues
     metrics: Metrics = field(default_factory=Metrics)
     requests: AtOnce = field(default_factory=AtOnce)
     lists: AtOnce = field(default_factory=AtOnce)

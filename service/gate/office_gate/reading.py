@@ -6,10 +6,13 @@ import re
 from office_gate import deciding
 from office_gate.access import Person
 from office_gate.body import Json
+from office_gate.catalogue_reading import CATALOGUE, CatalogueReading
 from office_gate.deciding import Asked
 from office_gate.errors import Answered
 from office_gate.gate import Gate
+from office_gate.history import History
 from office_gate.office import Answer
+from office_gate.rights import need
 from office_gate.words import MAY, READS, VAULT
 
 NUMBER = "[1-9][0-9]{0,9}"
@@ -22,13 +25,7 @@ CERTIFICATE = re.compile(f"/certificates/{NUMBER}")
 OBJECT = re.compile("/vault/[0-9a-f]{64}")
 LIMITS = "/vault/limits"
 """what fits into the vault, for whoever puts a file in"""
-CATALOGUE = re.compile(r"/catalogue/[a-z]{1,32}\.json")
 KEYS = ("Office-Read", "Office-After")
-
-
-def need(person: Person, thing: str) -> None:
-    if not person.may(f"read {thing}"):
-        raise Answered(403, "right", read=thing)
 
 
 def filtered(data: bytes, person: Person) -> bytes:
@@ -69,6 +66,12 @@ class Reading:
             return await self.list(path)
         if CERTIFICATE.fullmatch(path):
             return await self.certificate(path)
+        if path.startswith("/history"):
+            return await History(self.gate, self.asked).about(path)
+        if path.startswith("/since"):
+            return await History(self.gate, self.asked).since(path)
+        if found := CATALOGUE.fullmatch(path):
+            return await CatalogueReading(self.gate, self.asked).answer(found[1])
         raise Answered(404, "path")
 
     # ---- the office's paths
@@ -145,6 +148,7 @@ class Reading:
         elif method in ("GET", "HEAD") and (found := FILES.fullmatch(path)):
             await self.may_content(int(found[1]))
         elif method in ("GET", "HEAD") and CATALOGUE.fullmatch(path):
+            # a site of nginx from before the gate gave the catalogue itself
             need(self.person, "catalogue")
             if not self.person.may_all("read catalogue"):
                 raise Answered(403, "class", read="catalogue")

@@ -3,6 +3,7 @@ import asyncio
 import os
 import signal
 import socket
+import sqlite3
 import time
 from pathlib import Path
 
@@ -18,6 +19,7 @@ BACKLOG = 4096
 STOP_SECONDS = 300
 TURNS = 20
 PRUNE_SECONDS = 3600
+FOLLOW_SECONDS = 60
 
 
 def listener(place: Path | None) -> socket.socket:
@@ -53,6 +55,16 @@ async def prune(gate: Gate) -> None:
             say(f"contents are not removed, and it is tried again in an hour: {error}")
 
 
+async def follow(gate: Gate) -> None:
+    """Takes the lines of the journal into the histories, so that no reading of one has many to wait for."""
+    while True:
+        try:
+            await asyncio.to_thread(gate.index.catch_up)
+        except (OSError, sqlite3.Error) as error:
+            say(f"the histories are behind, and it is tried again: {error}")
+        await asyncio.sleep(FOLLOW_SECONDS)
+
+
 async def serve(gate: Gate, at: socket.socket) -> None:
     """Serves until SIGTERM. Then what is under way is answered, and whoever comes waits at the socket."""
     loop, stop = asyncio.get_running_loop(), asyncio.Event()
@@ -61,7 +73,7 @@ async def serve(gate: Gate, at: socket.socket) -> None:
     server = await loop.create_unix_server(front, sock=at, backlog=BACKLOG)
     for number in (signal.SIGTERM, signal.SIGINT):
         loop.add_signal_handler(number, stop.set)
-    tasks = [asyncio.ensure_future(watch(gate)), asyncio.ensure_future(prune(gate))]
+    tasks = [asyncio.ensure_future(it(gate)) for it in (watch, prune, follow)]
 
     def reload() -> None:
         tasks.append(asyncio.ensure_future(gate.reload()))
@@ -73,6 +85,7 @@ async def serve(gate: Gate, at: socket.socket) -> None:
     tell("STOPPING=1")
     await closed(server, at)
     await drained(front)
+    gate.index.end()
     for it in tasks:
         it.cancel()
     await front.shutdown(1)

@@ -23,7 +23,8 @@ HEAD_SECONDS = 10
 POSTS = ("/acts", "/run/resume")
 MAY = "/may"
 """what nginx asks about a file that it has itself"""
-GETS = ("/records/", "/due/", "/overdue/", "/certificates/", "/rights", "/alive", "/metrics", MAY)
+GETS = ("/records/", "/due/", "/overdue/", "/certificates/", "/catalogue/", "/history", "/since", "/rights", "/alive",
+        "/metrics", MAY)
 MOST_TOLD = 400
 """so many letters of a path are in the journal"""
 

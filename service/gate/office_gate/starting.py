@@ -4,6 +4,7 @@ from dataclasses import dataclass
 from pathlib import Path
 
 from office_gate import settings
+from office_gate.acts_index import ActsIndex
 from office_gate.catalogue import Catalogue
 from office_gate.catching import catch_up, unanswered
 from office_gate.contents import Contents
@@ -12,6 +13,7 @@ from office_gate.facts import Facts
 from office_gate.gate import Gate
 from office_gate.journal import Journal
 from office_gate.office import Office
+from office_gate.own_catalogue import OwnCatalogues
 
 LEAST_TOKEN = 32
 
@@ -45,7 +47,8 @@ def opened(places: Places, address: str) -> Gate:
     token = token_of(places.token)
     journal = Journal(places.journal, Contents(places.state / "contents").make())
     journal.open()
-    return Gate(access, token, journal, Facts(places.state / "facts.db"), Catalogue(places.catalogue), Office(address))
+    return Gate(access, token, journal, Facts(places.state / "facts.db"), Catalogue(places.catalogue), Office(address),
+                ActsIndex(places.state / "history.db", places.journal), OwnCatalogues(places.state / "catalogues"))
 
 
 async def begin(gate: Gate) -> None:

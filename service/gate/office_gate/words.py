@@ -12,8 +12,9 @@ LATER_DAY = "later-day"
 """an act whose day is after today"""
 MAY = (*ACTS, RESUME, VAULT, LATER_DAY)
 
-READS = ("records", "contents", "lists", "certificates", "catalogue", "health")
-"""a record; its content and its files; what is due and overdue; a certificate; the catalogue; whether all is well"""
+READS = ("records", "contents", "lists", "certificates", "catalogue", "history", "health")
+"""a record; its content and its files; what is due and overdue; a certificate; the catalogue; who did what, and why;
+whether all is well"""
 
 SIGNED = ("place-hold", "confirm", "review", "open-run", "receipt", "event")
 """the kinds whose member `by` names a person"""

@@ -25,9 +25,11 @@ FOLDED = ["X: a\r\n Office-Name: legal\r\n", "Office-Name: a\r\n legal\r\n", "\t
 
 def tried(folder: pathlib.Path) -> None:
     world = World(folder / "world", SETTINGS)
-    catalogue = folder / "catalogue"
+    catalogue = world.catalogue / "now"
     catalogue.mkdir(parents=True)
-    (catalogue / "records.json.gz").write_bytes(gzip.compress(b'{"records":[]}'))
+    for name, value in (("records", []), ("aggregations", []), ("runs", [])):
+        data = json.dumps({"moment": "2026-11-29T06:20:00Z", name: value}, separators=(",", ":")).encode()
+        (catalogue / f"{name}.json.gz").write_bytes(gzip.compress(data))
     proxy = Proxy(folder / "nginx", "gated.conf", NAMES, world.place, world.port, catalogue)
     world.settings.write_text(f"site {proxy.here}\nzone UTC\n" + SETTINGS)
     world.start_office()
@@ -72,12 +74,25 @@ def names(proxy: Proxy, world: World) -> None:
 
 def own(proxy: Proxy) -> None:
     """What nginx has itself goes to those whom the gate lets have it."""
-    for name, status in (("auditor", 200), ("registry", 200), ("department", 403), ("archive", 403)):
+    for name, status in (("auditor", 200), ("registry", 200), ("archive", 403)):
         found = proxy.ask(name, "GET", "/city/catalogue/records.json")
         same(f"the catalogue for {name}", found[0], status)
         if status == 403:
-            same(f"the word for {name}", found[1], b'{"error":"right"}')
-    same("what is in it", proxy.ask("auditor", "GET", "/city/catalogue/records.json")[1], b'{"records":[]}')
+            same(f"the word for {name}", found[1], b'{"error":"right","read":"catalogue"}')
+    same("what is in it", proxy.ask("auditor", "GET", "/city/catalogue/records.json")[1],
+         b'{"moment":"2026-11-29T06:20:00Z","records":[]}')
+    same("what is in it for a client that takes it compressed", gzip.decompress(proxy.ask(
+        "auditor", "GET", "/city/catalogue/records.json", None, {"Accept-Encoding": "gzip"})[1])[:10], b'{"moment":')
+    same("runs of a name with classes", proxy.ask("department", "GET", "/city/catalogue/runs.json"),
+         (403, b'{"error":"class","read":"catalogue"}'))
+    same("a history", kinds(proxy.ask("auditor", "GET", "/city/history?hold=H")[1]),
+         ["lift-hold", "place-hold"])
+    same("no history", proxy.ask("registry", "GET", "/city/history?hold=H"), (403, b'{"error":"right","read":"history"}'))
+    same("what was done since", kinds(proxy.ask("auditor", "GET", "/city/since?moment=2026-11-29T06:20:00Z")[1])[-1:],
+         ["place-hold"])
+    for path in ("/city/history", "/city/history?hold=H&hold=I", "/city/history/?hold=H", "/city/history?hold=%48",
+                 "/city/since", "/city/historyx?hold=H"):
+        same(path, proxy.ask("auditor", "GET", path)[0], 404)
     for path in ("/city/catalogue/../records/2", "/city/catalogue/records.json/../../records/2",
                  "/city/catalogue/%2e%2e/may",
                  "/city/catalogue/", "/city/catalogue/other.txt", "/city/may", "/city/catalogue//records.json"):
@@ -103,6 +118,10 @@ def own(proxy: Proxy) -> None:
         if status == 403:
             word = "class" if path.startswith("/city/records/2") else "right"
             same(f"{verb} {path} of {name}: the word", found[1], f'{{"error":"{word}"}}'.encode())
+
+
+def kinds(body: bytes) -> list[str]:
+    return [it.get("kind") or it["act"]["act"] for it in json.loads(body)["rows"]]
 
 
 def forged(proxy: Proxy, world: World) -> None:

@@ -18,10 +18,10 @@ MAY: dict[str, set[str]] = {
     "auditor": set(), "archive": {"receipt"}, "monitor": set(), "stranger": set()}
 READS: dict[str, set[str]] = {
     "registry": {"records", "contents", "lists", "catalogue"},
-    "records-manager": {"records", "contents", "lists", "certificates", "catalogue"},
-    "legal": {"records", "contents", "lists", "certificates", "catalogue"},
-    "department": {"records", "contents", "lists"},
-    "auditor": {"records", "lists", "certificates", "catalogue"},
+    "records-manager": {"records", "contents", "lists", "certificates", "catalogue", "history"},
+    "legal": {"records", "contents", "lists", "certificates", "catalogue", "history"},
+    "department": {"records", "contents", "lists", "catalogue"},
+    "auditor": {"records", "lists", "certificates", "catalogue", "history"},
     "archive": {"certificates"}, "monitor": {"health"}, "stranger": set()}
 # what the office refuses, so that nothing changes when it gets there
 ACTS: list[dict[str, Any]] = [
@@ -45,8 +45,12 @@ ACTS: list[dict[str, Any]] = [
     {"act": "receipt", "record": 1, "digest": "0" * 64},
     {"act": "event", "record": 1, "occurred": today(1)}]
 PATHS = {"records": ["/records/1"], "contents": ["/records/1/content"], "certificates": ["/certificates/1"],
-         "lists": [f"/due/{today()}", f"/overdue/{today()}/30"], "health": ["/alive", "/metrics"]}
-FILES = {"contents": ["/records/1/files", "/records/1/files/1"], "catalogue": ["/catalogue/records.json"]}
+         "lists": [f"/due/{today()}", f"/overdue/{today()}/30"], "health": ["/alive", "/metrics"],
+         "history": ["/history?record=1", "/history?name=legal"],
+         "catalogue": ["/catalogue/records.json", "/since?moment=2026-01-01T00:00:00Z"]}
+# there is no certificate yet, and no catalogue
+MISSING = ("/certificates/1", "/catalogue/records.json")
+FILES = {"contents": ["/records/1/files", "/records/1/files/1"]}
 OBJECT, LIMITS = f"/vault/{'a' * 64}", "/vault/limits"
 
 
@@ -105,9 +109,9 @@ def resuming(world: World, role: str) -> None:
 def reading(world: World, role: str, thing: str, path: str) -> None:
     status, body = world.ask(role, "GET", path)
     if thing in READS[role]:
-        wanted = {"/certificates/1": 404}.get(path, 200)
+        wanted = 404 if path in MISSING else 200
         same(f"{role} reads {path}", status, wanted)
-        line = world.last("read")
+        line = world.last("refused" if path == "/catalogue/records.json" else "read")
     else:
         word = "class" if role == "archive" and thing in ("records", "contents") else "right"
         same(f"{role} does not read {path}", (status, json.loads(body)), (403, {"error": word, "read": thing}))
