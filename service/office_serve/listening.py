@@ -62,14 +62,13 @@ def bound_path(path: pathlib.Path) -> socket.socket:
     try:
         if is_taken(path):
             raise Refused(3, f"another process listens at {path}")
-        path.parent.mkdir(mode=0o755, parents=True, exist_ok=True)
+        before = os.umask(0o022)
+        path.parent.mkdir(parents=True, exist_ok=True)
         path.unlink(missing_ok=True)
         listener = socket.socket(socket.AF_UNIX, socket.SOCK_STREAM)
-        before = os.umask(0o177)
-        try:
-            listener.bind(str(path))
-        finally:
-            os.umask(before)
+        os.umask(0o177)
+        listener.bind(str(path))
+        os.umask(before)
         listener.listen(BACKLOG)
     except OSError as error:
         raise Refused(3, f"{path} cannot be bound: {error.strerror}") from error
