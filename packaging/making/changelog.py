@@ -32,14 +32,21 @@ def changes_in(text: str) -> list[str]:
     return [" ".join(it.split()) for it in re.findall(r"^- (.*(?:\n  .*)*)", text, re.M)]
 
 
-def last_commit() -> tuple[datetime.date, str]:
-    """The day and the name of the last commit, so that two packages of different sources have different versions."""
-    done = subprocess.run(["git", "log", "-1", "--format=%cs %h"], cwd=TOP, stdout=subprocess.PIPE,
-                          stderr=subprocess.DEVNULL, text=True, check=False)
+def git(*words: str) -> str:
+    done = subprocess.run(["git", *words], cwd=TOP, stdout=subprocess.PIPE, stderr=subprocess.DEVNULL, text=True,
+                          check=False)
     if done.returncode:
         fail("CHANGELOG.md has changes under 'Next', and there is no git to name their commit: give them a version")
-    day, name = done.stdout.split()
-    return datetime.date.fromisoformat(day), name
+    return done.stdout.strip()
+
+
+def last_commit() -> tuple[datetime.date, str]:
+    """Returns the day of the last commit, and how many commits there are with the name of the last one.
+
+    So two packages of different sources have different versions, and the later of one day is the greater one.
+    """
+    day, name = git("log", "-1", "--format=%cs %h").split()
+    return datetime.date.fromisoformat(day), f"{git('rev-list', '--count', 'HEAD')}.{name}"
 
 
 def versions() -> list[Version]:

@@ -7,7 +7,7 @@ import shutil
 import subprocess
 from typing import NamedTuple
 
-from making import manual
+from making import copies, manual
 from making.changelog import Version, debian
 from making.failing import fail
 from making.words import TOP, table
@@ -134,6 +134,7 @@ def stage(top: pathlib.Path, program: pathlib.Path, all_versions: list[Version],
     put_manuals(top, last, "files")
     put_packed(manual.office(last.number, str(last.day), scripts_in("files")), top / "usr/share/man/man1/office.1.gz")
     put_completion(top / "usr/share/bash-completion/completions/office")
+    put(copies.text(), top / "usr/share/office/copies")
     put((HERE / "copyright").read_text(), top / DOC / "copyright")
     put_packed(debian(all_versions, maintainer), top / DOC / "changelog.gz")
 

@@ -5,6 +5,8 @@ import pathlib
 import re
 import time
 
+from office_serve.links import link
+
 from office_seal import durable
 from office_seal.errors import IMPOSSIBLE, WRONG, Refused
 
@@ -22,15 +24,15 @@ def kept(folder: pathlib.Path) -> dict[int, pathlib.Path]:
     return dict(sorted(found.items()))
 
 
-def asked(port: int, number: int) -> bytes | None:
+def asked(place: str, number: int) -> bytes | None:
     """Asks the office for a certificate; None if it has none of this number."""
-    conn = http.client.HTTPConnection("127.0.0.1", port, timeout=SECONDS)
+    conn = link(place, SECONDS)
     try:
         conn.request("GET", f"/certificates/{number}")
         answer = conn.getresponse()
         body = answer.read()
     except (OSError, http.client.HTTPException) as why:
-        raise Refused(IMPOSSIBLE, f"the office at port {port} does not answer: {why}") from why
+        raise Refused(IMPOSSIBLE, f"the office at {place} does not answer: {why}") from why
     finally:
         conn.close()
     if answer.status == 404 and body == b'{"error":"certificate"}':
@@ -43,7 +45,7 @@ def asked(port: int, number: int) -> bytes | None:
     return body
 
 
-def fetch(port: int, folder: pathlib.Path, is_restored: bool) -> int:
+def fetch(place: str, folder: pathlib.Path, is_restored: bool) -> int:
     """Keeps each certificate that is not there yet: how many. The position is the last one that is there.
 
     The office must still have that one with the same bytes. After a restore, and only with the word for it, all are
@@ -52,11 +54,11 @@ def fetch(port: int, folder: pathlib.Path, is_restored: bool) -> int:
     with durable.locked(folder):
         there = kept(folder)
         last = max(there, default=0)
-        if last and not is_restored and asked(port, last) != there[last].read_bytes():
+        if last and not is_restored and asked(place, last) != there[last].read_bytes():
             raise Refused(WRONG, f"the office has another certificate {last} than {there[last]}, or has it no more: "
                                  f"{ADVICE}")
         number, new = (0 if is_restored else last) + 1, 0
-        while (text := asked(port, number)) is not None:
+        while (text := asked(place, number)) is not None:
             if number not in there or there[number].read_bytes() != text:
                 durable.write(folder / f"certificate-{number}.txt", text)
                 new += 1

@@ -1,7 +1,13 @@
-"""The listening socket, which systemd keeps while office-serve restarts, and what systemd is told."""
+"""The listening sockets, which systemd keeps while office-serve restarts, and what systemd is told.
+
+At the port each request is served, at the socket of the file system readings alone.
+"""
 import array
+import grp
 import os
+import pathlib
 import socket
+import sys
 
 from office_serve.errors import Refused
 
@@ -9,10 +15,19 @@ FIRST = 3
 """the first descriptor that systemd passes"""
 BACKLOG = 4096
 """so many clients may wait"""
+READERS = "office-read"
+"""the group whose users may ask at the socket for readings"""
+Place = int | str
+"""a port of 127.0.0.1, or the path of the socket for readings"""
 
 
-def name_of(port: int) -> str:
-    return f"port-{port}"
+def name_of(place: Place) -> str:
+    return f"port-{place}" if isinstance(place, int) else "readings"
+
+
+def place_of(listener: socket.socket) -> Place:
+    name = listener.getsockname()
+    return str(name) if listener.family == socket.AF_UNIX else int(name[1])
 
 
 def tell(text: str, descriptor: int | None = None) -> bool:
@@ -27,40 +42,80 @@ def tell(text: str, descriptor: int | None = None) -> bool:
     return True
 
 
-def bound(port: int) -> socket.socket:
+def bound(place: Place) -> socket.socket:
+    """Binds a port or a path; a path that somebody listens at is taken."""
+    if isinstance(place, str):
+        return bound_path(pathlib.Path(place))
     try:
-        return socket.create_server(("127.0.0.1", port), backlog=BACKLOG)
+        return socket.create_server(("127.0.0.1", place), backlog=BACKLOG)
     except OSError as error:
-        raise Refused(3, f"port {port} of 127.0.0.1 cannot be bound: {error.strerror}") from error
+        raise Refused(3, f"port {place} of 127.0.0.1 cannot be bound: {error.strerror}") from error
 
 
-def keep(port: int) -> None:
-    """Binds a port and gives the socket to systemd. If the port is taken, systemd may have it already."""
+def is_taken(path: pathlib.Path) -> bool:
+    with socket.socket(socket.AF_UNIX, socket.SOCK_STREAM) as link:
+        return link.connect_ex(str(path)) == 0
+
+
+def bound_path(path: pathlib.Path) -> socket.socket:
+    """Binds a socket of the file system, which the users of one group may reach."""
     try:
-        listener = bound(port)
-    except Refused:
+        if is_taken(path):
+            raise Refused(3, f"another process listens at {path}")
+        before = os.umask(0o022)
+        path.parent.mkdir(parents=True, exist_ok=True)
+        path.unlink(missing_ok=True)
+        listener = socket.socket(socket.AF_UNIX, socket.SOCK_STREAM)
+        os.umask(0o177)
+        listener.bind(str(path))
+        os.umask(before)
+        listener.listen(BACKLOG)
+    except OSError as error:
+        raise Refused(3, f"{path} cannot be bound: {error.strerror}") from error
+    lend(path)
+    return listener
+
+
+def lend(path: pathlib.Path) -> None:
+    """Lets the group of the readers reach a socket, if there is such a group; only root can."""
+    if os.geteuid() != 0:
         return
-    with listener:
-        if not tell(f"FDSTORE=1\nFDPOLL=0\nFDNAME={name_of(port)}", listener.fileno()):
-            raise Refused(2, "--listen is for a unit of systemd")
+    try:
+        os.chown(path, -1, grp.getgrnam(READERS).gr_gid)
+        path.chmod(0o660)
+    except KeyError:
+        print(f"office-serve: there is no group {READERS}, so root alone may ask at {path}: "
+              f"addgroup --system {READERS}", file=sys.stderr)
 
 
-def passed() -> dict[int, socket.socket]:
-    """Returns the listening sockets that systemd passes, by their ports."""
+def keep(places: list[Place]) -> None:
+    """Binds each place and gives the socket to systemd. If a place is taken, systemd may have it already."""
+    for place in places:
+        try:
+            listener = bound(place)
+        except Refused:
+            continue
+        with listener:
+            if not tell(f"FDSTORE=1\nFDPOLL=0\nFDNAME={name_of(place)}", listener.fileno()):
+                raise Refused(2, "--listen is for a unit of systemd")
+
+
+def passed() -> dict[Place, socket.socket]:
+    """Returns the listening sockets that systemd passes, by their places."""
     if os.environ.pop("LISTEN_PID", "") != str(os.getpid()):
         return {}
-    found = {}
+    listeners: dict[Place, socket.socket] = {}
     for at in range(int(os.environ.pop("LISTEN_FDS", "0"))):
         os.set_inheritable(FIRST + at, False)
-        it = socket.socket(fileno=FIRST + at)
-        found[it.getsockname()[1]] = it
-    return found
+        one = socket.socket(fileno=FIRST + at)
+        listeners[place_of(one)] = one
+    return listeners
 
 
-def listener(port: int) -> socket.socket:
-    """Returns the socket of the port: that of systemd, or else a new one."""
-    sockets = passed()
-    for other in sockets.keys() - {port}:
-        sockets.pop(other).close()
+def listeners(places: list[Place]) -> list[socket.socket]:
+    """Returns the sockets of the places: those of systemd, or else new ones."""
+    kept = passed()
+    for other in kept.keys() - set(places):
+        kept.pop(other).close()
         tell(f"FDSTOREREMOVE=1\nFDNAME={name_of(other)}")
-    return sockets.get(port) or bound(port)
+    return [kept.get(it) or bound(it) for it in places]

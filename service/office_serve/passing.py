@@ -5,6 +5,7 @@ import struct
 import time
 
 from office_serve.stopping import Stop
+from office_serve.watching import Watch
 
 BLOCK = 65536
 ANSWER_SECONDS = 60
@@ -20,6 +21,9 @@ class Way:
         self.beginning = b""
         self.has_ended = False
         self.is_open = True
+        # how a request has to begin, where readings alone are served
+        self.only = b""
+        self.is_refused = False
 
     def can_read(self) -> bool:
         return not self.has_ended and not self.waiting
@@ -32,9 +36,11 @@ class Way:
         except OSError:
             block = b""
         self.beginning = (self.beginning + block)[:16]
+        size = min(len(self.only), len(self.beginning))
+        self.is_refused = self.beginning[:size] != self.only[:size]
         self.has_ended = not block
         # what nobody takes any more is read to its end nevertheless
-        self.waiting = block if self.is_open else b""
+        self.waiting = block if self.is_open and not self.is_refused else b""
 
     def write(self) -> None:
         try:
@@ -57,9 +63,10 @@ class Way:
 class Passing:
     """Passes one connection to its end. Used once."""
 
-    def __init__(self, client: socket.socket, link: socket.socket) -> None:
+    def __init__(self, client: socket.socket, link: socket.socket, only: bytes = b"") -> None:
         self.client, self.link = client, link
         self.request, self.answer = Way(client, link), Way(link, client)
+        self.request.only = only
         self.answer_ends: float | None = None
         for it in (client, link):
             it.setblocking(False)
@@ -70,16 +77,21 @@ class Passing:
     def status(self) -> bytes:
         return self.answer.beginning[9:12]
 
-    def run(self, stop: Stop) -> bool:
-        """Passes all. Returns whether it came to its end: not if the time to stop was over before."""
+    def run(self, stop: Stop, watch: Watch, pid: int) -> str:
+        """Passes all. Returns why it did not come to its end, if the program has to be ended for that."""
+        watch.begin()
         while not (self.answer.has_ended and not self.answer.waiting):
             seconds = self.seconds_left(stop)
             if seconds is not None and seconds <= 0:
                 break
-            self.step(stop, seconds)
+            if watch.is_hung(pid):
+                return f"the program did nothing for {watch.seconds:.0f} seconds with a request under way"
+            self.step(stop, watch.step if seconds is None else min(seconds, watch.step))
+            if self.request.is_refused:
+                return ""
         else:
-            return True
-        return not (stop.is_asked() and stop.left() == 0)
+            return ""
+        return "the request under way took longer than may be" if stop.is_asked() and stop.left() == 0 else ""
 
     def seconds_left(self, stop: Stop) -> float | None:
         """Returns how long may be waited: for the client's reading, and for the end."""
@@ -89,7 +101,7 @@ class Passing:
         both = [it for it in (of_client, stop.left()) if it is not None]
         return min(both) if both else None
 
-    def step(self, stop: Stop, seconds: float | None) -> None:
+    def step(self, stop: Stop, seconds: float) -> None:
         """Waits until something can be passed, and passes it."""
         wanted = {stop.fileno(): select.POLLIN}
         for way in (self.request, self.answer):
@@ -100,7 +112,7 @@ class Passing:
         poll = select.poll()
         for number, events in wanted.items():
             poll.register(number, events)
-        ready = {number for number, _ in poll.poll(None if seconds is None else 1000 * seconds + 1)}
+        ready = {number for number, _ in poll.poll(1000 * seconds + 1)}
         stop.clear()
         for way in (self.request, self.answer):
             if way.can_read() and way.source.fileno() in ready:
@@ -113,6 +125,9 @@ class Passing:
         """Ends the program's connection. A client that has a part of an answer is reset when it is closed, so that it
         does not take it as whole."""
         self.link.close()
+        if self.request.is_refused:
+            reply(self.client, "405 Method Not Allowed", "method")
+            return
         is_whole = self.answer.has_ended and not self.answer.waiting
         if self.is_answered() and not is_whole:
             self.client.setsockopt(socket.SOL_SOCKET, socket.SO_LINGER, struct.pack("ii", 1, 0))

@@ -8,6 +8,7 @@ import sys
 
 from office_serve.errors import Refused
 from office_serve.stopping import Stop
+from office_serve.watching import Watch
 
 CHILD = str(pathlib.Path(__file__).with_name("child.py"))
 END_SECONDS = 30
@@ -31,7 +32,7 @@ class Program:
         self.port = 0
         self.process: subprocess.Popen[bytes] | None = None
 
-    def start(self, stop: Stop) -> bool:
+    def start(self, stop: Stop, watch: Watch) -> bool:
         """Opens FILE by a new process. Returns whether it listens; if not, somebody asked to stop meanwhile."""
         self.port, self.left = free_port(), self.count
         words = [self.path, "serve", str(self.file), str(self.port), str(self.count)]
@@ -39,9 +40,14 @@ class Program:
                                         stdin=subprocess.DEVNULL, stdout=subprocess.PIPE)
         out = self.process.stdout
         assert out is not None
-        while not select.select([out, stop], [], [], None)[0] == [out]:
+        watch.begin()
+        while not select.select([out, stop], [], [], watch.step)[0] == [out]:
             if stop.is_asked():
                 return False
+            if watch.is_hung(self.process.pid):
+                self.kill()
+                raise Refused(3, f"the office in {self.file} does not open: it did nothing for {watch.seconds:.0f} "
+                                 "seconds")
         line = out.readline()
         out.close()
         if not line.startswith(b"listening"):
@@ -68,15 +74,29 @@ class Program:
         self.left -= 1
         return link
 
-    def is_alive(self) -> bool:
-        """Asks the program for an empty list. Returns whether it answers, since one that a fault closed ends."""
+    def is_alive(self, stop: Stop, watch: Watch) -> bool:
+        """Asks the program for a record. Returns whether it answers: one that a fault closed ends, one that hangs is
+        ended."""
         link = self.connect()
         if link is None:
             return False
+        assert self.process is not None
+        answer = block = b""
+        watch.begin()
         with link:
             try:
-                link.sendall(b"GET /due/0001-01-01 HTTP/1.1\r\nHost: office\r\n\r\n")
-                answer = b"".join(iter(lambda: link.recv(65536), b""))
+                link.sendall(b"GET /records/1 HTTP/1.1\r\nHost: office\r\n\r\n")
+                while not stop.is_asked():
+                    if link in select.select([link, stop], [], [], watch.step)[0]:
+                        block = link.recv(65536)
+                        answer += block
+                        if not block:
+                            break
+                    elif watch.is_hung(self.process.pid):
+                        print(f"<3>office-serve: the program did nothing for {watch.seconds:.0f} seconds when it was "
+                              "asked for a record; it is ended, and started again", file=sys.stderr, flush=True)
+                        self.kill()
+                        return False
             except OSError:
                 answer = b""
         return bool(answer)

@@ -223,7 +223,7 @@ def is_compared(shell: Shell) -> None:
 
 def refused_while_open(shell: Shell) -> None:
     """What the page says of a member that runs: nothing is written anew."""
-    compact = "runuser -u office -- office-compact /var/lib/office-member/city/work/office.db"
+    compact = "runuser -u office-member -- office-compact /var/lib/office-member/city/work/office.db"
     done = shell.run(compact)
     refused = done.status == 1 and "office.db open: stop" in done.err
     judge(f"{PAGE}: while the member runs: {compact}", refused, f"{done}")
@@ -272,7 +272,8 @@ ROWS = [
     Row("cp service/replicas/office-etcd-defrag.service"),
     Row("cp service/replicas/etcd.conf"),
     Row("install -m 755 service/replicas/office-etcdctl"),
-    Row("install -d -o office -g office -m 700"),
+    Row("install -d -m 755 /var/lib/office-member"),
+    Row("install -d -o office-member -g office-member -m 700"),
     Row("systemd-analyze verify"),
     Row("service/replicas/certificates certificates revoke", prints="archive3: revoked\n"),
     Row("service/replicas/certificates certificates", prints="archive1: made\narchive2: made\narchive3: made\n"),
@@ -283,16 +284,18 @@ ROWS = [
     Row("systemctl daemon-reload", skip="without systemd"),
     Row("systemctl enable --now office-etcd", skip="without systemd", then=etcd_starts),
     Row("office-etcdctl endpoint health"),
-    Row("runuser -u office -- /usr/local/lib/office-replicas/found /etc/office/city.json /var",
+    Row("runuser -u office-member -- /usr/local/lib/office-replicas/found /etc/office/city.json /var",
         skip="the log begins with a new office here"),
-    Row("runuser -u office -- /usr/local/lib/office-replicas/found", prints="founded city\n"),
+    Row("find /var/lib/office/city -maxdepth 1", skip="the log begins with a new office here"),
+    Row("sed -i '/8180-8199/", then=rules_load),
+    Row("runuser -u office-member -- /usr/local/lib/office-replicas/found", prints="founded city\n"),
     Row("systemctl mask", skip="without systemd"),
     Row("rsync --archive /var/lib/office-member/city/snapshots second/"),
     Row("systemctl enable --now office-member@city", skip="without systemd", then=members_start),
     Row("runuser -u office -- curl --silent http://127.0.0.1:8181/replica", like=r'\{"answers":true,.*\}',
         then=prepare_nginx),
     Row("runuser -u office -- curl --silent --fail http://127.0.0.1:8181/metrics", like=r"# HELP office_member_answers .*"),
-    Row("runuser -u office -- /usr/local/lib/office-replicas/refuse", skip="no entry fails here"),
+    Row("runuser -u office-member -- /usr/local/lib/office-replicas/refuse", skip="no entry fails here"),
     Row("cp service/replicas/nginx.conf"),
     Row("sed -i '$a include"),
     Row("sed -i 's|proxy_pass_request_body"),
@@ -325,7 +328,7 @@ ROWS = [
     Row("office-since", prints="1\tholds to place again, and targets to put on again\n", status=1, then=is_compared),
     Row("office-etcdctl defrag"),
     Row("office-etcdctl alarm disarm"),
-    Row("runuser -u office -- office-compact", like=r".*: the same\n.*the old file.*|.*the same\n.*"),
+    Row("runuser -u office-member -- office-compact", like=r".*: the same\n.*the old file.*|.*the same\n.*"),
     Row("find /var/lib/office-member/city/work -name 'office.db.before-*' -delete"),
 ]
 

@@ -9,6 +9,7 @@ import http.client
 import json
 import os
 import pathlib
+import re
 import shutil
 import socket
 import ssl
@@ -120,8 +121,9 @@ class Proxy:
         # no office has a vault, until a trial names one
         (self.folder / "vaults.conf").write_text("")
         (self.folder / "vault.conf").write_text(replaced((NGINX / "vault.conf").read_text(), "/run/office-vault/", f"{self.folder}/vaults/"))
-        for name in ("http.conf", "server.conf", "actors.conf"):
+        for name in ("http.conf", "reject.conf", "server.conf", "actors.conf", "pam.conf"):
             text = replaced(text, f"include /etc/nginx/office/{name};", (NGINX / name).read_text())
+        text = re.sub(r"\n *listen \[::\][^\n]*", "", text)
         for old, new in [
             # what the page does with a day that has not come is tried too
             ("js_var $days_ahead 1;", "js_var $days_ahead 400000;"),

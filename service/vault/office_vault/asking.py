@@ -2,6 +2,8 @@
 import http.client
 import json
 
+from office_serve.links import link
+
 from office_vault.errors import Refused
 from office_vault.manifest import MOST_BYTES
 from office_vault.offices import Said
@@ -12,8 +14,7 @@ MOST_SAID = 1 << 20
 
 def asked(address: str, path: str, lines: dict[str, str], most: int) -> tuple[int, bytes]:
     """Sends one GET and returns status and body, of which no more than so many bytes are read."""
-    host, _, port = address.rpartition(":")
-    connection = http.client.HTTPConnection(host, int(port), timeout=SECONDS)
+    connection = link(address, SECONDS)
     try:
         connection.request("GET", path, headers=lines)
         answer = connection.getresponse()
@@ -23,13 +24,14 @@ def asked(address: str, path: str, lines: dict[str, str], most: int) -> tuple[in
 
 
 class Served:
-    """The office at an address; `lines` are field lines of each request, such as Office-Read for a member."""
+    """The office at an address, or at its socket for readings; `lines` are field lines of each request, such as
+    Office-Read for a member."""
 
     def __init__(self, address: str, lines: dict[str, str]) -> None:
         self.address = address.removeprefix("http://").rstrip("/")
         self.lines = lines
-        if not self.address.rpartition(":")[2].isdigit():
-            raise Refused(2, f"{address} is no address as http://127.0.0.1:8081")
+        if not self.address.startswith("/") and not self.address.rpartition(":")[2].isdigit():
+            raise Refused(2, f"{address} is no address as http://127.0.0.1:8081, and no socket")
 
     def get(self, path: str, most: int) -> bytes | None:
         """Returns the body of an answer, or None if there is no such thing."""

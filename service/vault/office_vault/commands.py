@@ -104,7 +104,7 @@ def words() -> argparse.ArgumentParser:
     one.add_argument("files", type=Path, nargs="+")
     room(one)
     one = kind(serve, "vault", "socket")
-    one.add_argument("--office", required=True, metavar="HOST:PORT")
+    one.add_argument("--office", required=True, metavar="SOCKET|HOST:PORT")
     one.add_argument("--most", type=number, default=100 * GIGABYTE, help="bytes of the largest object")
     one.add_argument("--internal", default="/office-vault-objects", help="where nginx has the objects")
     one.add_argument("--at-once", type=number, default=4, help="uploads of a name at once")
@@ -124,7 +124,7 @@ def words() -> argparse.ArgumentParser:
 
 
 def asked(one: argparse.ArgumentParser) -> None:
-    one.add_argument("office", help="http://127.0.0.1:PORT, FILE, or a folder of copies")
+    one.add_argument("office", help="SOCKET, http://127.0.0.1:PORT, FILE, or a folder of copies")
     one.add_argument("--line", type=line, action="append", default=[], help="a field line of each request")
 
 
@@ -142,10 +142,27 @@ def become_owner(folder: Path) -> None:
     os.setresuid(owner, owner, owner)
 
 
+def become_reader(source: Path, target: Path, arguments: list[str]) -> None:
+    """Lets root go on as the owner of TARGET who may read a vault of somebody else, by setpriv; returns if that is none.
+
+    Each object is compared with its digest, so nothing that is no object of the source gets into the target.
+    """
+    owners = [it.stat().st_uid if it.is_dir() else 0 for it in (source, target)]
+    if os.geteuid() != 0 or 0 in owners or owners[0] == owners[1]:
+        return
+    found = pwd.getpwuid(owners[1])
+    os.execvp("setpriv", ["setpriv", f"--reuid={found.pw_uid}", f"--regid={found.pw_gid}", "--init-groups",
+                          "--inh-caps=-all,+dac_read_search", "--ambient-caps=-all,+dac_read_search",
+                          "--bounding-set=-all,+dac_read_search", "--no-new-privs", sys.executable, "-I", sys.argv[0],
+                          *arguments])
+
+
 def main(arguments: list[str]) -> int:
     it = words().parse_args(arguments)
     os.umask(0o027)
     try:
+        if it.what is mirror:
+            become_reader(it.vault, it.target, arguments)
         become_owner(it.vault)
         return it.what(it)
     except Refused as refused:

@@ -1,4 +1,4 @@
-"""Opens the office that a command names: an address at which it is served, FILE, or a folder of copies."""
+"""Opens the office that a command names: an address or a socket at which it is served, FILE, or a folder of copies."""
 import contextlib
 import re
 from collections.abc import Iterator
@@ -19,8 +19,8 @@ def copies_in(folder: Path) -> list[Path]:
 
 @contextlib.contextmanager
 def opened(place: str, work: Path, lines: dict[str, str]) -> Iterator[Office]:
-    """Opens what a command names as the office: an address, FILE (a copy is taken now), or a folder of copies."""
-    if place.startswith("http://"):
+    """Opens what a command names as the office: an address, a socket, FILE (it is copied now), or a folder of copies."""
+    if place.startswith("http://") or Path(place).is_socket():
         yield Served(place, lines)
         return
     path = Path(place)

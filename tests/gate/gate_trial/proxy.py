@@ -3,6 +3,7 @@ import base64
 import http.client
 import json
 import pathlib
+import re
 import socket
 import ssl
 import subprocess
@@ -52,6 +53,8 @@ class Proxy:
         self.process: subprocess.Popen | None = None
 
     def put(self, name: str, text: str) -> None:
+        # IPv4 alone, at ports of the trial
+        text = re.sub(r"\n *listen \[::\][^\n]*", "", text)
         for old, new in self.places.items():
             text = text.replace(old, new)
         (self.folder / name).write_text(text)

@@ -56,6 +56,8 @@ def names() -> None:
     reply = conn.getresponse()
     sent = reply.status, reply.getheader("Location")
     same("port 80 sends to TLS, at the site's own name", sent, (301, "https://localhost/web/"))
+    listening = {line.split()[3] for line in run("ss --listening --tcp --numeric").stdout.splitlines()[1:]}
+    same("it listens by IPv6 too", {"[::]:80", "[::]:443"} & listening, {"[::]:80", "[::]:443"})
 
 
 def answers(folder: str) -> None:
@@ -76,7 +78,9 @@ def answers(folder: str) -> None:
     error("more than 1 MiB", post(f"{folder}acts", b" " * 1_048_577), 413, "size")
     page = ask("GET", f"{folder}web/office.js")
     same("a file of the page", (page.status, page.head.get("Content-Type")), (200, "text/javascript"))
-    fields = {"Strict-Transport-Security": "max-age=31536000", "X-Content-Type-Options": "nosniff"}
+    fields = {"Strict-Transport-Security": "max-age=31536000", "X-Content-Type-Options": "nosniff",
+              "Cross-Origin-Opener-Policy": "same-origin", "Permissions-Policy": "camera=(), display-capture=(), "
+              "geolocation=(), microphone=(), payment=(), usb=()"}
     for it, kept in ((first, "no-store"), (page, "no-cache"), (ask("GET", f"{folder}records/1"), "no-store")):
         wanted = {**fields, "Cache-Control": kept}
         same(f"its field lines, of {it.status}", {name: it.head.get(name) for name in wanted}, wanted)
@@ -144,7 +148,7 @@ def passwords(folder: str) -> None:
 
 def ports(port: int) -> None:
     """The rules of office.nft, as they were loaded."""
-    reached = {user: reach(port, user) for user in ("www-data", "office", "nobody", "root")}
-    same("who reaches the office's port", reached, {"www-data": True, "office": True, "nobody": False, "root": False})
+    users = ("www-data", "office", "office-yearend", "nobody", "root")
+    same("who reaches the office's port", [user for user in users if reach(port, user)], list(users[:3]))
     done = run("nft -f /etc/nftables.conf && nft list table inet office")
     judge("Debian's nftables.conf loads them too", done.returncode == 0 and "office_ports" in done.stdout, done.stdout)

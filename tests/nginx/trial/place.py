@@ -24,7 +24,7 @@ CERTIFICATE = "/etc/nginx/office/office.crt"
 JOURNAL = pathlib.Path("/var/log/office/acts.log")
 HERE = {"Origin": "https://localhost"}
 # commands of a machine that runs systemd, or that fetch packages
-NOT_HERE = ("apt-get", "systemctl", "curl")
+NOT_HERE = ("apt-get", "systemctl", "curl", "fail2ban", "cp service/nginx/fail2ban")
 
 
 class Answer(NamedTuple):
@@ -48,7 +48,8 @@ def commands() -> list[str]:
 
 def install(site: str) -> None:
     """Runs these commands, with the site of one office or of several, and adds a reader and a monitor."""
-    run("adduser --system --group --no-create-home --home /nonexistent office")
+    for user in ("office", "office-yearend"):
+        run(f"adduser --system --group --no-create-home --home /nonexistent {user}")
     for command in commands():
         if command.startswith(NOT_HERE):
             continue

@@ -12,4 +12,4 @@ SCRIPTS = TOP / "service"
 NGINX = TOP / "service/nginx"
 
 sys.dont_write_bytecode = True
-sys.path.insert(0, str(VAULT))
+sys.path[:0] = [str(VAULT), str(SCRIPTS)]

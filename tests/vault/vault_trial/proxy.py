@@ -50,6 +50,8 @@ class Proxy:
                                f"http {{\n{temp}sendfile on;\ninclude {site};\n{plain_site(folder, port + 2)}}}\n")
 
     def put(self, name: str, text: str) -> pathlib.Path:
+        # IPv4 alone, at ports of the trial
+        text = re.sub(r"\n *listen \[::\][^\n]*", "", text)
         for old, new in self.places.items():
             text = text.replace(old, new)
         path = self.folder / name

@@ -78,11 +78,12 @@ class Machine:
 
 
 def set_up(it: Machine) -> None:
-    for command in ["adduser --system --group --no-create-home --home /nonexistent office",
-                    "adduser --system --group --no-create-home --home /nonexistent office-mail",
+    for command in [*(f"adduser --system --group --no-create-home --home /nonexistent {it}"
+                      for it in ("office", "office-mail", "office-vault")), "addgroup --system office-read",
                     "install -d -o office -g office -m 700 /var/lib/office/city",
                     "runuser -u office -- office init /var/lib/office/city/office.db",
                     "install -d -m 755 /var/lib/office-vaults /var/lib/office-vault-backups",
+                    # as it was made before the vault had a user of its own
                     f"install -d -o office -g www-data -m 2750 {CITY}",
                     f"runuser -u office -- office-vault make {CITY}",
                     f"install -d -o office -g office -m 700 {SECOND}",
@@ -90,6 +91,21 @@ def set_up(it: Machine) -> None:
                     "systemctl start office@city office-vault@city"]:
         status, said = it.run(command)
         judge(command, status == 0, said)
+
+
+def apart(it: Machine) -> None:
+    """The vault changes hands as its service starts; the service reaches the office's readings, and no port."""
+    same("all of the vault is of its own user", it.run(f"find {CITY} '!' -user office-vault | wc -l")[1], "0")
+    same("and of nginx's group", it.run(f"find {CITY} '!' -group www-data | wc -l")[1], "0")
+    inside = ("nsenter -t $(systemctl show -p MainPID --value office-vault@city) -n -m setpriv --reuid office-vault "
+              "--regid www-data --groups office-read curl --silent --max-time 5 --output /dev/null --write-out "
+              "'%{http_code}' ")
+    reading = inside + "--unix-socket /run/office/city/readings "
+    same("it asks for a record", it.run(reading + "http://office/records/1")[1], "404")
+    same("it acts not", it.run(reading + "--data-binary '[]' http://office/acts")[1], "405")
+    same("nor at the port", it.run(inside + "http://127.0.0.1:8081/records/1; true")[1], "000")
+    same("others do not ask there", it.run("runuser -u nobody -- curl --silent --unix-socket /run/office/city/readings "
+                                          "http://office/records/1")[0], 7)
 
 
 def used(it: Machine) -> None:
@@ -101,7 +117,7 @@ def used(it: Machine) -> None:
     same("a file comes in", said, f'{{"length":{len(DATA)},"sha256":"{name}"}}')
     place = f"{CITY}/objects/{name[:2]}"
     same("its modes", it.run(f"stat -c '%U %G %a' {place} {place}/{name} {SOCKET}")[1],
-         "office www-data 2750\noffice www-data 440\noffice www-data 660")
+         "office-vault www-data 2750\noffice-vault www-data 440\noffice-vault www-data 660")
     same("nginx may read it", it.run(f"runuser -u www-data -- sha256sum {place}/{name}")[1][:64], name)
     same("nobody else may", it.run(f"runuser -u nobody -- cat {place}/{name}")[0], 1)
     acts = filing(name)
@@ -132,7 +148,7 @@ def kept(it: Machine) -> None:
         judge(f"{unit}@city", it.run(f"systemctl is-failed {unit}@city")[1] == "inactive", said)
     name = hashlib.sha256(DATA).hexdigest()
     command = f"cut -d ' ' -f 1 {CITY}/reports/sweep-000001.txt | head -n 3; stat -c %U {CITY}/state.db"
-    same("a report", it.run(command)[1], "SWEEP\nBEGAN\nNAMED\noffice")
+    same("a report", it.run(command)[1], "SWEEP\nBEGAN\nNAMED\noffice-vault")
     same("the second vault has the file", it.run(f"sha256sum {SECOND}/objects/{name[:2]}/{name}")[1][:64], name)
     same("timers start", it.run("systemctl enable --now office-vault-{sweep,check,mirror}@city.timer 2>/dev/null; "
                                 "systemctl is-active office-vault-{sweep,check,mirror}@city.timer")[1], "active\n" * 2
@@ -150,7 +166,9 @@ def kept(it: Machine) -> None:
     judge("a file that is missing is a failure that is reported", "failed" in said and "missing" in said
           and said.endswith("1"), said)
     status, said = it.run(f"office-vault mirror {SECOND} {CITY} && stat -c '%U %G %a' {CITY}/objects/{name[:2]}/{name}")
-    judge("root brings it back, as the vault's owner", said.endswith("office www-data 440"), said)
+    judge("root brings it back, as the vault's owner", said.endswith("office-vault www-data 440"), said)
+    same("from a second vault that this owner cannot read by itself",
+         it.run(f"runuser -u office-vault -- ls {SECOND}/objects")[0], 2)
     it.run("systemctl start office-vault-check@city")
     same("and all is well", it.run("systemctl is-failed office-vault-check@city")[1], "inactive")
 
@@ -160,6 +178,7 @@ def tried(folder: pathlib.Path) -> None:
     folder.chmod(0o755)
     with machine as it:
         set_up(it)
+        apart(it)
         used(it)
         kept(it)
     shutil.rmtree(folder / "machine", ignore_errors=True)

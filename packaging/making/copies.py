@@ -1,0 +1,76 @@
+"""The list of all versions of the files of which administrators have copies, from the history of the repository."""
+import importlib.machinery
+import importlib.util
+import pathlib
+import subprocess
+from types import ModuleType
+
+from making.failing import fail
+from making.words import TOP
+
+LIST = TOP / "packaging/copies"
+
+
+def script() -> ModuleType:
+    """Loads office-copies, which knows what does not count as a change."""
+    loader = importlib.machinery.SourceFileLoader("office_copies", str(TOP / "service/office-copies"))
+    spec = importlib.util.spec_from_loader("office_copies", loader)
+    assert spec is not None
+    module = importlib.util.module_from_spec(spec)
+    loader.exec_module(module)
+    return module
+
+
+def git(*words: str, given: bytes = b"") -> bytes:
+    """Runs git; without a history there are no older versions."""
+    done = subprocess.run(["git", *words], cwd=TOP, input=given, stdout=subprocess.PIPE, stderr=subprocess.DEVNULL,
+                          check=False)
+    return done.stdout if done.returncode == 0 else b""
+
+
+def ends_of(source: str) -> str:
+    """Returns how a path of a file ends in each commit: its folder was moved as a whole."""
+    return "/".join(source.split("/")[-2:])
+
+
+def blobs(sources: list[str]) -> dict[str, list[str]]:
+    """Lists the contents that each file ever had, the last one first."""
+    patterns = [f":(glob)**/{ends_of(it)}" for it in sources]
+    contents: dict[str, list[str]] = {it: [] for it in sources}
+    for line in git("log", "--raw", "--no-renames", "--no-abbrev", "--format=", "HEAD", "--", *patterns).decode().split("\n"):
+        if not line.startswith(":"):
+            continue
+        fields, path = line.split("\t", 1)
+        blob = fields.split()[3]
+        for source in sources:
+            if path.endswith("/" + ends_of(source)) and blob.strip("0") and blob not in contents[source]:
+                contents[source].append(blob)
+    return contents
+
+
+def texts(names: list[str]) -> dict[str, str]:
+    """Reads blobs, by one call of git."""
+    given = git("cat-file", "--batch", given="".join(f"{it}\n" for it in names).encode())
+    read, at = {}, 0
+    for name in names:
+        end = given.index(b"\n", at)
+        size = int(given[at:end].split()[2])
+        read[name] = given[end + 1:end + 1 + size].decode(errors="surrogateescape")
+        at = end + size + 2
+    return read
+
+
+def text() -> str:
+    """Returns the list: for each file its path, where its copy is, and its digests, that of now first."""
+    digest_of = script().digest_of
+    rows = [line.split() for line in LIST.read_text().split("\n") if line and not line.startswith("#")]
+    of_sources = blobs(sorted({source for source, _ in rows}))
+    read = texts(sorted({name for names in of_sources.values() for name in names}))
+    lines = []
+    for source, place in rows:
+        path = pathlib.Path(TOP / source)
+        if not path.is_file():
+            fail(f"packaging/copies names {source}, which is not there")
+        older = [digest_of(read[name]) for name in of_sources[source]]
+        lines.append(" ".join([source, place, *dict.fromkeys([digest_of(path.read_text()), *older])]))
+    return "\n".join(lines) + "\n"
