@@ -1,4 +1,5 @@
 """What one name can cost the others: long lists, lists of strange values, many questions, and a right that was taken away."""
+import asyncio
 import gzip
 import json
 import pathlib
@@ -6,7 +7,7 @@ import signal
 import sys
 import threading
 import time
-from collections.abc import Callable
+from collections.abc import Callable, Coroutine
 
 from gate_trial.base import SETTINGS
 from gate_trial.judging import judge, same
@@ -15,7 +16,11 @@ from gate_trial.world import HERE, JOURNAL, TOKEN, World, today
 
 sys.path.insert(0, str(JOURNAL.parent))
 
-from office_gate import requests  # noqa: E402
+from office_gate import body as bodies  # noqa: E402
+from office_gate import deciding, members, requests  # noqa: E402
+from office_gate.access import Grant, Person  # noqa: E402
+from office_gate.catalogue import Aggregations  # noqa: E402
+from office_gate.scopes import Scopes  # noqa: E402
 
 CLERK = "role clerk may reclassify confirm add-record\nname clerk is clerk in BLDG*\n"
 RULES = "rule changer-does-not-open 30\n"
@@ -30,6 +35,7 @@ def tried(folder: pathlib.Path) -> None:
     world.start_gate()
     files(world)
     linear(world)
+    asyncio.run(yielding())
     without_rights(world)
     many_values(world)
     beside(world)
@@ -67,10 +73,11 @@ def cost(world: World, what: Callable[[], object], times: int = 3) -> float:
     return least
 
 
-def given(count: int) -> bytes:
+def given(count: int, last: int = 2) -> bytes:
     """Lists classes that a clerk gives to an own aggregation, and at last to one of others."""
     act = {"act": "reclassify", "day": today(), "target": "aggregation:7", "class": "BLDG1"}
-    return json.dumps([act] * (count - 1) + [act | {"target": "aggregation:2"}], separators=(",", ":")).encode()
+    acts = [act] * (count - 1) + [act | {"target": f"aggregation:{last}"}]
+    return json.dumps(acts, separators=(",", ":")).encode()
 
 
 def linear(world: World) -> None:
@@ -81,6 +88,41 @@ def linear(world: World) -> None:
         times.append(cost(world, lambda: same(f"{count} acts", world.text("clerk", body),
                                               (403, {"error": "class", "act": "reclassify", "place": count - 1})), 5))
     judge("time for 1,000 and 2,000 acts", times[1] < 2.5 * times[0], times)
+
+
+async def turns_during(work: Coroutine[None, None, object]) -> tuple[int, object]:
+    """Does some work. Returns how many turns another task had meanwhile, and what came of the work."""
+    turns = 0
+
+    async def others() -> None:
+        nonlocal turns
+        while True:
+            turns += 1
+            await asyncio.sleep(0)
+
+    task = asyncio.create_task(others())
+    done = await work
+    task.cancel()
+    return turns, done
+
+
+async def no_record(_: int) -> None:
+    return None
+
+
+async def yielding() -> None:
+    """Each step of judging a long list yields to others."""
+    known = Aggregations()
+    known.add(7, None, "BLDG1")
+    clerk = Person("clerk", "clerk", ("clerk",), (Grant("reclassify", (("BLDG*",),)),))
+    turns, values = await turns_during(bodies.list_of(given(12_000, 7)))
+    acts = bodies.acts_of(values)
+    steps = {"reading": turns, "kinds": (await turns_during(deciding.kinds(clerk, acts)))[0],
+             "the journal's acts": (await turns_during(members.journaled(acts)))[0],
+             "classes": (await turns_during(deciding.classes(clerk, acts, Scopes(known, no_record))))[0],
+             "writing": (await turns_during(bodies.bytes_of(acts)))[0]}
+    for step, count in steps.items():
+        judge(f"{step} of 12,000 acts: turns of others", count > 1, steps)
 
 
 def without_rights(world: World) -> None:
