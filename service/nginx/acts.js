@@ -4,6 +4,8 @@
 const LONGEST = 200;
 const DAY = /^\d\d\d\d-\d\d-\d\d$/;
 const MILLISECONDS = 86400000;
+/** Controls, marks of direction and separators of lines, which change how a terminal shows a line. */
+const HIDING = /[\u007f-\u009f\u061c\u200e\u200f\u2028-\u202e\u2066-\u2069]/g;
 
 /** Reads the list of acts, then passes the request on, or answers it: 413, 400 or 403, and no act is done. */
 function pass(r) {
@@ -113,8 +115,11 @@ function line(r) {
   };
   const isLeftOut = of.upstream_addr && !isDone(head.status);
   const acts = isLeftOut ? JSON.stringify("left out: nothing was done") : of.acts || JSON.stringify("");
-  return `${JSON.stringify(head).slice(0, -1)},"acts":${acts}}`;
+  return `${JSON.stringify(head).slice(0, -1)},"acts":${acts}}`.replace(HIDING, escaped);
 }
+
+/** Writes a character as JSON's escape of it. */
+const escaped = (text) => `\\u${text.charCodeAt(0).toString(16).padStart(4, "0")}`;
 
 /** Whether acts were done, or may have been. */
 const isDone = (status) => status === 200 || status === 201 || status === 409 || status >= 499;

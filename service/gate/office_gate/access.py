@@ -74,6 +74,7 @@ class Access:
     rules: Rules = field(default_factory=Rules)
     requests_at_once: int = 8
     lists_at_once: int = 2
+    journal_bytes: int = 10_000_000
     content_days: int = 3
     journals_readings: bool = True
 

@@ -2,11 +2,17 @@
 import datetime
 import gzip
 import json
+import re
 import zlib
 from dataclasses import dataclass, field
 from pathlib import Path
 
 from office_gate.body import Json
+
+Places = dict[tuple[int, str], int]
+"""the aggregations of records, by number and ref"""
+RECORD = re.compile(r",?(\[([1-9][0-9]*),.*\])")
+"""a line of the catalogue that is a record: number, ref, title, aggregation and status"""
 
 
 @dataclass
@@ -79,3 +85,22 @@ class Catalogue:
             return self.found, False
         self.seen, self.found = str(at), found
         return found, True
+
+    def places(self, wanted: dict[int, str]) -> Places:
+        """Returns the aggregations of records that have the refs that the office reports. It runs beside the loop."""
+        found: Places = {}
+        if self.folder is None:
+            return found
+        try:
+            with gzip.open(self.folder / "now/records.json.gz", "rt", encoding="utf-8") as lines:
+                for line in lines:
+                    row = RECORD.match(line)
+                    if not row or int(row[2]) not in wanted:
+                        continue
+                    number, ref, _, aggregation, _ = json.loads(row[1])
+                    if wanted[number] == ref:
+                        found[number, ref] = aggregation
+        except (OSError, EOFError, ValueError, TypeError, zlib.error):
+            # the office is asked
+            return {}
+        return found

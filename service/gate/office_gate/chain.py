@@ -6,7 +6,7 @@ from collections.abc import Iterator
 from dataclasses import dataclass
 from pathlib import Path
 
-from office_gate.body import Json, text_of, value_of
+from office_gate.body import Json, line_of, text_of, value_of
 from office_gate.errors import Refused
 
 NONE = "0" * 64
@@ -37,7 +37,7 @@ START = Head(0, NONE)
 
 def linked(entry: dict[str, object], head: Head) -> tuple[bytes, Head]:
     """Writes an entry as the line after that one. Returns it with its LF, and the new head."""
-    data = text_of({"before": head.sha256, "line": head.line + 1, **entry}).encode()
+    data = line_of({"before": head.sha256, "line": head.line + 1, **entry}).encode()
     return data + b"\n", Head(head.line + 1, digest(data))
 
 

@@ -1,12 +1,14 @@
 """Whether a name may do the acts of a list: kind by kind, its own name, the day, a reason, and the classes."""
 import datetime
 import re
+from collections import Counter
 from dataclasses import dataclass, field
 
 from office_gate.access import Access, Person
-from office_gate.body import Json
+from office_gate.body import Json, is_act
 from office_gate.errors import Answered
 from office_gate.office import ends_of
+from office_gate.pace import each
 from office_gate.scopes import Scopes, has_thing
 from office_gate.words import ACTS, LATER_DAY, RESUME, SIGNED
 
@@ -29,39 +31,52 @@ def today(access: Access) -> str:
     return datetime.datetime.now(access.zone).date().isoformat()
 
 
-def kinds(person: Person, acts: list[Json]) -> None:
-    """Refuses a kind that is none, or that the name has no right for."""
-    for place, act in enumerate(acts):
-        if act["act"] not in ACTS:
+def may_act(person: Person) -> bool:
+    """Reports whether a name has a right to any kind of act."""
+    return any(map(person.may, ACTS))
+
+
+def kinds_in(values: list[object]) -> dict[str, int]:
+    """Counts the acts of a list by their kinds, of those that there are."""
+    counts = Counter(value["act"] for value in values if is_act(value))
+    return {kind: counts[kind] for kind in ACTS if counts[kind]}
+
+
+async def kinds(person: Person, acts: list[Json]) -> None:
+    """Refuses a kind that is none, one that the name has no right for, and a second opening of a run."""
+    may = {kind: person.may(kind) for kind in ACTS}
+    opens = False
+    async for place, act in each(acts):
+        kind = act["act"]
+        if kind not in may or opens and kind == "open-run":
             raise Answered(400, "act", place=place, refused=2)
-        if not person.may(act["act"]):
-            raise Answered(403, "right", act=act["act"], place=place)
+        if not may[kind]:
+            raise Answered(403, "right", act=kind, place=place)
+        opens = opens or kind == "open-run"
 
 
-def sign(person: Person, acts: list[Json]) -> None:
-    """Puts the name that signed in where an act names a person, and refuses another one."""
-    for place, act in enumerate(acts):
-        if act["act"] not in SIGNED:
-            continue
-        if act.get("by") not in (None, "", person.name, person.signs) or type(act.get("by")) not in (str, type(None)):
+async def sign(person: Person, acts: list[Json]) -> None:
+    """Refuses an act that names another person than the one who signed in."""
+    own = ("", person.name, person.signs)
+    async for place, act in each(acts):
+        if act["act"] in SIGNED and act.get("by") is not None and not (type(act["by"]) is str and act["by"] in own):
             raise Answered(403, "by", place=place)
-        act["by"] = person.signs
 
 
-def signed(noted: list[Json], acts: list[Json]) -> list[Json]:
-    """Returns acts as the journal has them, with the names that were put in."""
-    return [it | {"by": act["by"]} if act["act"] in SIGNED else it for it, act in zip(noted, acts)]
+async def signed(person: Person, acts: list[Json]) -> list[Json]:
+    """Returns acts with the name that signed in where they name a person."""
+    return [act | {"by": person.signs} if act["act"] in SIGNED else act async for _, act in each(acts)]
 
 
-def days(access: Access, person: Person, acts: list[Json]) -> list[int]:
+async def days(access: Access, person: Person, acts: list[Json]) -> list[int]:
     """Refuses a day after today without the right to it. Returns the places of acts with a day before today."""
-    now, earlier = today(access), []
-    for place, act in enumerate(acts):
+    now, earlier, may_later = today(access), list[int](), person.may_all(LATER_DAY)
+    async for place, act in each(acts):
         day = act.get("day")
         # what is no day is left to the office, which refuses it
         if type(day) is not str or not DAY.fullmatch(day):
             continue
-        if day > now and not person.may_all(LATER_DAY):
+        if day > now and not may_later:
             raise Answered(403, "future", place=place, today=now)
         if day < now:
             earlier.append(place)
@@ -74,17 +89,25 @@ def reason(access: Access, asked: Asked, kind: str, place: int | None = None) ->
         raise Answered(400, "reason", act=kind, **where)
 
 
+async def reasons(access: Access, asked: Asked, acts: list[Json]) -> None:
+    async for place, act in each(acts):
+        reason(access, asked, act["act"], place)
+
+
 async def classes(person: Person, acts: list[Json], scopes: Scopes) -> None:
     """Refuses what is about a class for which the name has no right."""
-    if all(person.may_all(it["act"]) for it in acts):
+    whole = {kind: person.may_all(kind) for kind in {act["act"] for act in acts}}
+    if all(whole.values()):
         return
-    given = await scopes.given_in(acts)
-    for place, act in enumerate(acts):
+    given = frozenset(await scopes.given_in(acts))
+    in_given = {kind: all([person.may_in(kind, code) async for _, code in each(given)])
+                for kind, is_whole in whole.items() if not is_whole}
+    async for place, act in each(acts):
         kind = act["act"]
-        if person.may_all(kind):
+        if whole[kind]:
             continue
-        scope = await scopes.of(act) + (given if has_thing(act) else [])
-        if not all(person.may_in(kind, code) for code in scope):
+        scope = await scopes.of(act)
+        if not all(person.may_in(kind, code) for code in scope) or has_thing(act) and not in_given[kind]:
             raise Answered(403, "class", act=kind, place=place)
 
 

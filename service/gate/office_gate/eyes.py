@@ -1,13 +1,11 @@
 """The rules of four eyes: what one name did keeps it from the other step."""
-import json
-
 from office_gate.access import Access, Person
 from office_gate.body import Json
 from office_gate.catalogue import Aggregations
 from office_gate.deciding import DAY
 from office_gate.errors import Answered
 from office_gate.facts import Facts, made_with
-from office_gate.office import Answer, Office
+from office_gate.questions import Questions, rows_of
 from office_gate.words import DECISIONS
 
 OPENS = "confirmer-does-not-open"
@@ -22,7 +20,7 @@ def refused(rule: str, **more: object) -> Answered:
 class Eyes:
     """The rules that are switched on, for one list of acts of one name."""
 
-    def __init__(self, access: Access, facts: Facts, aggregations: Aggregations, office: Office) -> None:
+    def __init__(self, access: Access, facts: Facts, aggregations: Aggregations, office: Questions) -> None:
         self.rules, self.facts, self.aggregations, self.office = access.rules, facts, aggregations, office
 
     def is_opener(self, person: Person) -> bool:
@@ -74,43 +72,30 @@ class Eyes:
         if not DAY.fullmatch(day):
             # the office refuses it
             return
-        answer = await self.office.get(person.name, f"/due/{day}", {"Office-Read": "newest"})
-        if answer.status == 400:
+        listed = await self.office.due(person.name, day)
+        if listed is None:
             # the office refuses the act too
             return
-        if answer.status != 200:
-            raise Answered(503, "office")
-        for row in json.loads(answer.body):
+        is_of_file = any(thing.startswith("aggregation:") for thing in touched)
+        async for row in rows_of(listed):
             # what does not count now may count again before the run comes to the record
             may_count = row["confirmed"] or f"record:{row['record']}" in confirmed
             if self.rules.confirmer_does_not_open and may_count and await self.is_confirmer(person, row["record"]):
                 raise refused(OPENS, place=place, record=row["record"])
-            await self.changed(person, row, touched, place)
+            if f"record:{row['record']}" in touched or f"class:{row['class']}" in touched or \
+                    is_of_file and await self.changed(person, row, touched):
+                raise refused(CHANGES, place=place, record=row["record"])
 
-    async def changed(self, person: Person, row: Json, touched: set[str], place: int) -> None:
-        """Refuses a record to which the name gave its schedule or class, whoever confirms it."""
-        number = row["record"]
-        if f"record:{number}" in touched or f"class:{row['class']}" in touched:
-            raise refused(CHANGES, place=place, record=number)
-        if any(it.startswith("aggregation:") for it in touched):
-            answer = await self.record(person, number)
-            if answer.status != 200:
-                raise Answered(503, "office")
-            # a file that nobody knows may lie in one that the name changed
-            file = answer.json()["aggregation"]
-            if not self.aggregations.is_known(file) or any(f"aggregation:{it}" in touched
-                                                           for it in self.aggregations.chain(file)):
-                raise refused(CHANGES, place=place, record=number)
-
-    async def record(self, person: Person, number: int) -> Answer:
-        return await self.office.get(person.name, f"/records/{number}", {"Office-Read": "newest"})
+    async def changed(self, person: Person, row: Json, touched: set[str]) -> bool:
+        """Reports whether the name changed a file of the record, whoever confirms it."""
+        file = await self.office.aggregation(person.name, row)
+        # a file that nobody knows may lie in one that the name changed
+        return not self.aggregations.is_known(file) or any(f"aggregation:{it}" in touched
+                                                           for it in self.aggregations.chain(file))
 
     async def is_confirmer(self, person: Person, number: int) -> bool:
         names = self.facts.confirmers(number)
         if names:
             return person.name in names
-        answer = await self.record(person, number)
-        if answer.status != 200:
-            raise Answered(503, "office")
-        confirmed = answer.json()["confirmed"]
-        return bool(confirmed) and confirmed["by"] == person.signs
+        confirmed = await self.office.confirmation(person.name, number)
+        return confirmed is not None and confirmed["by"] == person.signs

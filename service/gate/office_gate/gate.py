@@ -6,16 +6,17 @@ import sys
 import time
 import traceback
 from collections.abc import AsyncIterator
-from dataclasses import dataclass, field
+from dataclasses import dataclass, field, replace
+from functools import partial
 
-from office_gate import body, deciding, settings
+from office_gate import body, deciding, members, settings
 from office_gate.access import Access
 from office_gate.acts_index import ActsIndex
 from office_gate.body import Json
+from office_gate.budget import Budget
 from office_gate.catalogue import Aggregations, Catalogue
 from office_gate.catching import catch_up
 from office_gate.chain import Head, digest
-from office_gate.contents import noted
 from office_gate.deciding import Asked
 from office_gate.errors import Answered, Refused, say
 from office_gate.eyes import Eyes
@@ -24,11 +25,26 @@ from office_gate.journal import Journal
 from office_gate.metrics import Metrics
 from office_gate.office import UNKNOWN, Answer, Office
 from office_gate.own_catalogue import OwnCatalogues
-from office_gate.scopes import Asking, Scopes
+from office_gate.questions import Questions
+from office_gate.scopes import Scopes
 from office_gate.turns import AtOnce, Turns
 
 Written = asyncio.Future[Head]
 """the line of an answer, once it is on the disk"""
+LONG = 65_536
+"""a longer list is in the journal before it is read, and one of them is read at a time"""
+WHOLE = ("class", "eyes", "gate")
+"""the words of refusals whose lines have the acts: what is refused before the classes leaves no text of the client"""
+OWN = ("acts", "contents", "earlier", "reason", "key")
+"""what a line has of the client's own text"""
+SUMMARY = ("count", "kinds")
+"""what stands for it"""
+
+
+def line_of(what: str, entry: Json, is_whole: bool) -> Json:
+    """Returns the line of a request, with its acts or with a summary of them."""
+    left_out = SUMMARY if is_whole else OWN
+    return {"what": what} | {name: value for name, value in entry.items() if name not in left_out}
 
 
 def answered(asked: Head, answer: Answer) -> dict[str, object]:
@@ -66,8 +82,10 @@ class Gate:
     metrics: Metrics = field(default_factory=Metrics)
     requests: AtOnce = field(default_factory=AtOnce)
     lists: AtOnce = field(default_factory=AtOnce)
-    # one list of acts is judged and done at a time
+    # one long list is read at a time, and one list of acts is judged and done
+    reading: Turns = field(default_factory=lambda: Turns(1))
     acting: Turns = field(default_factory=lambda: Turns(1))
+    refusals: Budget = field(default_factory=Budget)
     is_behind: bool = False
     # the line of the last answer, which may be on its way to the disk
     last: Written | None = None
@@ -117,42 +135,91 @@ class Gate:
         """Does the acts of a list for a name. Answered says that it may not: then nothing was done."""
         entry = self.head(asked, "POST /acts") | {"body": {"bytes": len(data), "sha256": digest(data)}}
         async with self.refusing(entry):
-            acts = body.acts_of(data)
-            plain, parts = noted(acts)
-            entry["acts"] = plain
-            deciding.kinds(asked.person, acts)
-            deciding.sign(asked.person, acts)
-            if earlier := deciding.days(self.access, asked.person, acts):
-                entry["earlier"] = earlier
-            for place, act in enumerate(acts):
-                deciding.reason(self.access, asked, act["act"], place)
-            sent = body.bytes_of(acts)
+            async with self.reading_one(asked, entry, len(data)):
+                acts = await self.read(asked, entry, data)
+                plain, parts = await members.journaled(acts)
+                entry["acts"] = plain
+            questions = Questions(self.office, self.catalogue)
+            await self.ask_ahead(asked, acts, questions)
             async with self.acting.turn(asked.person.name, asked.ends):
-                await self.judge(asked, acts)
-                entry["acts"] = deciding.signed(plain, acts)
-                if parts:
-                    entry["contents"] = await self.journal.in_thread(self.journal.contents.add, parts)
+                while True:
+                    access, asked = await self.now(asked, entry)
+                    if earlier := await self.judge(access, asked, acts, questions):
+                        entry["earlier"] = earlier
+                    sent = await body.bytes_of(await deciding.signed(asked.person, acts))
+                    entry["acts"] = await deciding.signed(asked.person, plain)
+                    if parts and "contents" not in entry:
+                        entry["contents"] = await self.journal.in_thread(self.journal.contents.add, parts)
+                    if self.counts(access):
+                        break
                 answer, written = await self.send(asked, entry, "/acts", sent)
         return await self.durable(answer, written)
 
-    async def judge(self, asked: Asked, acts: list[Json]) -> None:
-        """Looks at classes and at the rules of four eyes, while nobody else acts."""
+    @contextlib.asynccontextmanager
+    async def reading_one(self, asked: Asked, entry: Json, length: int) -> AsyncIterator[None]:
+        """Lets one long list at a time be read, which the journal names before. A short one need not wait."""
+        if length <= LONG:
+            yield
+            return
+        await self.journal.append(line_of("came", entry, False), is_durable=False)
+        async with self.reading.turn(asked.person.name, asked.ends):
+            yield
+
+    async def read(self, asked: Asked, entry: Json, data: bytes) -> list[Json]:
+        """Reads a list of acts. Whoever lacks the right to a kind of them costs nobody a turn."""
+        values = await body.list_of(data)
+        entry |= {"count": len(values), "kinds": deciding.kinds_in(values)}
+        acts = body.acts_of(values)
+        await deciding.kinds(asked.person, acts)
+        return acts
+
+    async def ask_ahead(self, asked: Asked, acts: list[Json], questions: Questions) -> None:
+        """Asks for what a run's opening needs of many records, while others act. It is judged under the turn."""
+        days = [str(act.get("day")) for act in acts if act["act"] == "open-run"]
+        eyes = Eyes(self.access, self.facts, self.aggregations(), questions)
+        if not days or not eyes.looks():
+            return
+        with self.lists.one(asked.person.name, self.access.lists_at_once):
+            questions.is_ahead = True
+            try:
+                async with asyncio.timeout_at(asked.ends):
+                    await eyes.opened(asked.person, days[0], 0)
+            except TimeoutError:
+                raise Answered(503, "office") from None
+            except Answered as refused:
+                if refused.status >= 500:
+                    raise
+            finally:
+                questions.is_ahead = False
+
+    async def now(self, asked: Asked, entry: Json) -> tuple[Access, Asked]:
+        """Returns the settings of this moment, and who a name is by them. The line of the request names them."""
+        await self.tell()
+        access = self.access
+        entry.pop("earlier", None)
+        entry["settings"] = access.digest
+        return access, replace(asked, person=access.person(asked.person.name))
+
+    def counts(self, access: Access) -> bool:
+        """Reports whether settings are still those that count, and the journal says so."""
+        return self.told == self.access.digest == access.digest
+
+    async def judge(self, access: Access, asked: Asked, acts: list[Json], questions: Questions) -> list[int]:
+        """Judges a list by these settings, while nobody else acts. Returns the places of acts with an earlier day."""
+        person = asked.person
+        await deciding.kinds(person, acts)
+        await deciding.sign(person, acts)
+        earlier = await deciding.days(access, person, acts)
+        await deciding.reasons(access, asked, acts)
         await self.recover()
         known = self.aggregations()
         try:
             async with asyncio.timeout_at(asked.ends):
-                await deciding.classes(asked.person, acts, Scopes(known, self.asking(asked)))
-                await Eyes(self.access, self.facts, known, self.office).acts(asked.person, acts)
+                await deciding.classes(person, acts, Scopes(known, partial(questions.record, person.name)))
+                await Eyes(access, self.facts, known, questions).acts(person, acts)
         except TimeoutError:
             raise Answered(503, "office") from None
-
-    def asking(self, asked: Asked) -> Asking:
-        async def record(number: int) -> Json | None:
-            answer = await self.office.get(asked.person.name, f"/records/{number}", {"Office-Read": "newest"})
-            if answer.status not in (200, 404):
-                raise Answered(503, "office")
-            return answer.json() if answer.status == 200 else None
-        return record
+        return earlier
 
     async def resume(self, asked: Asked) -> tuple[Answer, Head]:
         """Carries out the run that is open."""
@@ -161,14 +228,20 @@ class Gate:
             deciding.resume(self.access, asked)
             async with self.acting.turn(asked.person.name, asked.ends):
                 await self.recover()
-                Eyes(self.access, self.facts, self.aggregations(), self.office).carry_out(asked.person)
+                while True:
+                    access, asked = await self.now(asked, entry)
+                    deciding.resume(access, asked)
+                    questions = Questions(self.office, self.catalogue)
+                    Eyes(access, self.facts, self.aggregations(), questions).carry_out(asked.person)
+                    if self.counts(access):
+                        break
                 answer, written = await self.send(asked, entry, "/run/resume", None)
         return await self.durable(answer, written)
 
     async def send(self, asked: Asked, entry: Json, path: str, data: bytes | None) -> tuple[Answer, Written]:
         """Sends what acts. It is in the journal before the office has it."""
         began = time.monotonic()
-        head = await self.journal.append({"what": "asked", **entry})
+        head = await self.journal.append(line_of("asked", entry, True))
         try:
             answer = await self.office.post(asked.person.name, path, data, asked.lines, asked.ends)
         except Answered as closed:
@@ -232,9 +305,16 @@ class Gate:
             raise Answered(500, "gate") from error
 
     async def refuse(self, entry: Json, refused: Answered) -> None:
+        """Writes the line of a refusal. Answered 429 `often` says that this name has no more of them today."""
         self.metrics.note("refused", refused.status, 0.0)
-        line = {"what": "refused", **entry, "status": refused.status, "answer": refused.body()}
-        await self.journal.append(line, is_durable=False)
+        name, most = str(entry["name"]), self.access.journal_bytes
+        if refused.status < 500 and self.refusals.is_spent(name, most):
+            raise Answered(429, "often")
+        line = line_of("refused", entry, refused.word in WHOLE)
+        line |= {"status": refused.status, "answer": refused.body()}
+        self.refusals.spend(name, len(body.text_of(line)))
+        is_last = refused.status < 500 and self.refusals.is_spent(name, most)
+        await self.journal.append(line | ({"last": True} if is_last else {}), is_durable=False)
 
     def head(self, asked: Asked, request: str) -> dict[str, object]:
         """What each line says of a request."""

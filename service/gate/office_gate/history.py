@@ -4,6 +4,7 @@ import datetime
 import json
 import re
 import sqlite3
+from functools import partial
 from typing import Any
 
 from office_gate.acts_index import ActsIndex, Row
@@ -52,7 +53,7 @@ class Sight:
 
     def __init__(self, gate: Gate, asked: Asked, things: tuple[str, ...]) -> None:
         self.person, self.words = asked.person, [f"read {it}" for it in things]
-        self.scopes = Scopes(gate.aggregations(), gate.asking(asked))
+        self.scopes = Scopes(gate.aggregations(), partial(gate.office.record, asked.person.name))
 
     def is_whole(self) -> bool:
         return all(map(self.person.may_all, self.words))

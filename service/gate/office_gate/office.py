@@ -17,6 +17,7 @@ AT_ONCE = 2
 """one is served, and the next is there already"""
 PASSED_LINES = ("Idempotency-Key", "Office-Read", "Office-After")
 """the lines that a member of an office on several machines reads"""
+NEWEST = {"Office-Read": "newest"}
 
 
 @dataclass(frozen=True)
@@ -55,6 +56,13 @@ class Office:
     async def get(self, name: str, path: str, lines: dict[str, str] | None = None) -> Answer:
         """Reads something. A reading is asked again if its answer was lost."""
         return await self.asked(name, asking.request("GET", self.address, path, None, lines or {}), ends_of())
+
+    async def record(self, name: str, number: int) -> Any:
+        """Returns what the office reports of a record, or None if there is none."""
+        answer = await self.get(name, f"/records/{number}", NEWEST)
+        if answer.status not in (200, 404):
+            raise Answered(503, "office")
+        return answer.json() if answer.status == 200 else None
 
     async def post(self, name: str, path: str, body: bytes | None, lines: dict[str, str], ends: float) -> Answer:
         """Sends what acts, once, up to that moment at the latest."""

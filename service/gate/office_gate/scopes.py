@@ -3,6 +3,7 @@ from collections.abc import Awaitable, Callable
 
 from office_gate.body import Json, number_in
 from office_gate.catalogue import Aggregations
+from office_gate.pace import each
 from office_gate.words import OF_RECORD
 
 Scope = list[str | None]
@@ -93,7 +94,7 @@ class Scopes:
 
     async def given_in(self, acts: list[Json]) -> Scope:
         """The classes that the list gives to things: within the list a thing may have any of these, and gets one."""
-        return [await self.given_by(it) for it in acts if it["act"] == "reclassify"]
+        return [await self.given_by(act) async for _, act in each(acts) if act["act"] == "reclassify"]
 
 
 def has_thing(act: Json) -> bool:

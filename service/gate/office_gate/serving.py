@@ -1,16 +1,17 @@
 """The requests that nginx passes on: one a connection, read whole, answered once."""
 import asyncio
 import contextlib
+import hashlib
 import json
 import sys
 import traceback
-from collections.abc import Awaitable
+from collections.abc import AsyncIterator, Awaitable
 
 from aiohttp import HttpVersion10, HttpVersion11, web
 from aiohttp.web_protocol import RequestHandler
 
 from office_gate import guards
-from office_gate.deciding import Asked
+from office_gate.deciding import Asked, may_act
 from office_gate.errors import Answered
 from office_gate.gate import Gate
 from office_gate.guards import Lines
@@ -69,9 +70,8 @@ class Front(web.Server):
 
     def note_unreadable(self) -> None:
         """Bytes that are no request have no name and no path."""
-        self.gate.metrics.note("refused", 400, 0.0)
-        entry = {"what": "refused", "name": "", "request": "no request", "status": 400, "answer": {"error": "head"}}
-        asyncio.ensure_future(quiet(self.gate.journal.append(entry, is_durable=False)))
+        refusal = self.gate.refuse({"name": "", "request": "no request"}, Answered(400, "head"))
+        asyncio.ensure_future(quiet(refusal))
 
     async def handle(self, request: web.BaseRequest) -> web.StreamResponse:
         # an act goes on if its client goes away
@@ -100,7 +100,7 @@ class Front(web.Server):
 
     async def answer(self, request: web.BaseRequest) -> web.StreamResponse:
         lines = Lines(request.raw_headers)
-        name, journaled = "", False
+        name, journaled, body = "", False, dict[str, object]()
         try:
             name = guards.name_of(self.gate, lines)
             is_post = request.method == "POST"
@@ -111,6 +111,9 @@ class Front(web.Server):
             with self.gate.requests.one(name, self.gate.access.requests_at_once):
                 method(request)
                 if is_post:
+                    if request.raw_path == "/acts" and not may_act(asked.person):
+                        body["body"] = await self.dropped(request, lines)
+                        raise Answered(403, "right")
                     data = await self.body(request, lines) if request.raw_path == "/acts" else b""
                     journaled = True
                     return await self.act(request.raw_path, asked, data)
@@ -121,7 +124,7 @@ class Front(web.Server):
                 return passed_back(answer)
         except Answered as refused:
             if not journaled:
-                await self.gate.refuse(entry(name, request, lines), refused)
+                await self.gate.refuse(entry(name, request, lines) | body, refused)
             raise
         except Exception:
             if not journaled:
@@ -140,14 +143,21 @@ class Front(web.Server):
     async def body(self, request: web.BaseRequest, lines: Lines) -> bytes:
         """Reads a body whole."""
         length = guards.length(lines)
-        try:
-            async with asyncio.timeout(BODY_SECONDS):
-                return await request.content.readexactly(length) if length else b""
-        except (asyncio.IncompleteReadError, TimeoutError, web.HTTPException) as error:
-            raise Answered(400, "body") from error
-        except Exception as error:
-            # what aiohttp raises of a connection that ended
-            raise Answered(400, "body") from error
+        async with whole():
+            return await request.content.readexactly(length) if length else b""
+
+    async def dropped(self, request: web.BaseRequest, lines: Lines) -> dict[str, object]:
+        """Takes a body that nobody reads, so that the client gets the answer. Returns what the journal has of it."""
+        left = length = guards.length(lines)
+        sha256 = hashlib.sha256()
+        async with whole():
+            while left:
+                data = await request.content.readany()
+                if not data:
+                    raise asyncio.IncompleteReadError(b"", left)
+                sha256.update(data)
+                left -= len(data)
+        return {"bytes": length, "sha256": sha256.hexdigest()}
 
     async def may(self, asked: Asked, lines: Lines) -> web.StreamResponse:
         """Answers nginx, which asks before it gives a file, or takes one."""
@@ -159,6 +169,19 @@ class Front(web.Server):
         else:
             await self.gate.note(asked, f"{verb} {path}", 204, 0)
         return reply(204, None)
+
+
+@contextlib.asynccontextmanager
+async def whole() -> AsyncIterator[None]:
+    """Refuses a body that does not come whole, or not in time."""
+    try:
+        async with asyncio.timeout(BODY_SECONDS):
+            yield
+    except (asyncio.IncompleteReadError, TimeoutError, web.HTTPException) as error:
+        raise Answered(400, "body") from error
+    except Exception as error:
+        # what aiohttp raises of a connection that ended
+        raise Answered(400, "body") from error
 
 
 async def quiet(writing: Awaitable[object]) -> None:

@@ -134,8 +134,10 @@ class Reader:
             self.set_once("requests_at_once", number(words[1:], 1, 1000))
         elif words[:1] == ["lists"]:
             self.set_once("lists_at_once", number(words[1:], 1, 100))
+        elif words[:1] == ["journal-bytes"]:
+            self.set_once("journal_bytes", number(words[1:], 10_000, 10**12))
         else:
-            raise Wrong("write: limit requests N, or limit lists N")
+            raise Wrong("write: limit requests N, limit lists N, or limit journal-bytes N")
 
     def keep(self, words: list[str]) -> None:
         if words[:1] != ["contents"]:

@@ -29,7 +29,7 @@ def later(world: World) -> None:
     status, said = world.act("legal", {"act": "lift-hold", "hold": "NONE"},
                              {"act": "lift-hold", "hold": "X", "day": today(1)})
     same("the second of two", (status, said["place"]), (403, 1))
-    same("it is in the journal", [it["day"] for it in world.last("refused")["acts"]], [today(), today(1)])
+    same("it is in the journal", world.last("refused")["count"], 2)
     for day in ("2999-12-31 ", "29991231", "2999-1-1", "+2999-12-31", "12999-01-01", "2999-12-31\n", 2999, None,
                 "\u0662999-12-31"):
         status, said = world.act("legal", {"act": "lift-hold", "hold": "NONE", "day": day})

@@ -151,7 +151,7 @@ def smuggled(proxy: Proxy, world: World) -> None:
         judge(f"{lines!r}", status in (400, 403, 411, 501, 0), (status, found))
     chunks = b"%x\r\n%s\r\n0\r\n\r\n" % (len(body), body)
     status, found = proxy.raw(f"POST /city/acts HTTP/1.1\r\n{head}Transfer-Encoding: chunked\r\n\r\n".encode() + chunks)
-    same("chunks, which nginx reads whole", (status, world.last("refused")["acts"]), (403, LIFT))
+    same("chunks, which nginx reads whole", (status, world.last("refused")["kinds"]), (403, {"lift-hold": 1}))
     judge("nobody but registry did any of this", {it["name"] for it in world.lines()[before:]} <= {"registry", ""},
           world.lines()[before:])
     judge("and nothing was sent", all(it["what"] != "asked" for it in world.lines()[before:]))

@@ -80,10 +80,14 @@ def acting(world: World, role: str, act: dict) -> None:
         judge(f"{role} may {kind}", status == 409 and "refused" in body[0], (status, body))
         judge(f"{role}, {kind}: the answer is in the journal", world.last("answered")["answers"] == body)
         line = world.last("asked")
-    else:
-        same(f"{role} may not {kind}", (status, body), (403, {"error": "right", "act": kind, "place": 0}))
-        line = world.last("refused")
-    judge(f"{role}, {kind}: the act is in the journal, whole", is_noted(line, role, act), line)
+        judge(f"{role}, {kind}: the act is in the journal, whole", is_noted(line, role, act), line)
+        return
+    # whoever may do no act has its body read by nobody
+    is_read = bool(MAY[role] - {"resume", "vault"})
+    place = {"act": kind, "place": 0} if is_read else {}
+    same(f"{role} may not {kind}", (status, body), (403, {"error": "right"} | place))
+    line = world.last("refused")
+    judge(f"{role}, {kind}: the journal has who, and a summary", is_summed(line, role, {kind: 1} if is_read else None), line)
 
 
 def is_noted(line: dict, role: str, act: dict) -> bool:
@@ -95,6 +99,14 @@ def is_noted(line: dict, role: str, act: dict) -> bool:
     content = noted.pop("content", {"bytes": 5})
     noted.pop("by", None)
     return line["name"] == role and line["from"] == "192.0.2.7" and noted == given and content["bytes"] == 5
+
+
+def is_summed(line: dict, role: str, kinds: dict[str, int] | None) -> bool:
+    """Whether a line has name, origin, length, digest and kinds of a list, and nothing that the client wrote."""
+    given = {"before", "line", "at", "what", "name", "from", "request", "body", "status", "answer"}
+    summary = {"count", "kinds"} if kinds is not None else set()
+    return line.keys() == given | summary and (line["name"], line["from"]) == (role, "192.0.2.7") and \
+        line["body"].keys() == {"bytes", "sha256"} and (kinds is None or (line["count"], line["kinds"]) == (1, kinds))
 
 
 def resuming(world: World, role: str) -> None:

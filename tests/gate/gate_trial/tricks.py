@@ -8,6 +8,7 @@ from gate_trial.judging import judge, same
 from gate_trial.world import World, today
 
 DAY = today()
+MAY_ACT = ("registry", "department")
 LIFT = f'"day":"{DAY}","hold":"H"'
 LIFTS = [f'[{{"act":"lift-hold",{LIFT}}}]',
          f'[{{"act":"lift\\u002dhold",{LIFT}}}]',
@@ -57,14 +58,16 @@ def hidden(world: World) -> None:
             status, said = world.text(name, body)
             same(f"lift {at} of {name}", (status, said["error"]), (403, "right"))
             line = world.last("refused")
-            same(f"lift {at} of {name} is in the journal", (line["name"], line["acts"]),
-                 (name, [{"act": "lift-hold", "day": DAY, "hold": "H"}]))
+            same(f"lift {at} of {name} is in the journal", (line["name"], line["body"]["bytes"], line.get("acts")),
+                 (name, len(body.encode()), None))
+            # an auditor and a stranger may do no act, so nobody reads what they send
+            same(f"lift {at} of {name}: its kind", line.get("kinds"), {"lift-hold": 1} if name in MAY_ACT else None)
         # a lift among others
         many = json.dumps([{"day": DAY, **filing(9, 1)}])[:-1] + "," + body.strip()[1:]
         status, said = world.text("registry", many)
         same(f"lift {at} beside a filing", (status, said), (403, {"error": "right", "act": "lift-hold", "place": 1}))
-        noted = world.last("refused")["acts"]
-        same(f"lift {at} beside a filing is in the journal", noted[-1], {"act": "lift-hold", "day": DAY, "hold": "H"})
+        same(f"lift {at} beside a filing is in the journal", world.last("refused")["kinds"],
+             {"add-record": 1, "lift-hold": 1})
 
 
 def unread(world: World) -> None:
@@ -89,7 +92,7 @@ def signed(world: World) -> None:
                 continue
             status, said = world.act(name, {**kind, "by": by})
             same(f"{name} does {kind['act']} by {by!r}", (status, said["error"]), (403, "by"))
-            same("that is in the journal", world.last("refused")["acts"][0]["act"], kind["act"])
+            same("that is in the journal", world.last("refused")["kinds"], {kind["act"]: 1})
 
 
 def passed_on(world: World) -> None:

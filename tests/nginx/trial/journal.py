@@ -98,6 +98,16 @@ def lifts(folder: str) -> None:
         judge(f"{name}: the line has the act", lift(code) in list(line["acts"]), f"{line}"[:300])
 
 
+def shown(folder: str) -> None:
+    """A terminal shows each line as it is: what would change that is written as an escape."""
+    marks = "\u200e\u202e\u2028\u2069"
+    line = one(f"{folder}acts", [{**HOLD, "code": "S-1", "reason": f"a{marks}b"}])
+    same("marks of direction in a reason", (line["status"], line["acts"][0]["reason"]), (200, f"a{marks}b"))
+    line = one(f"{folder}acts", [{**HOLD, "day": "2999-12-31", "code": "S-2", "reason": "\x9b31m\x85"}])
+    same("controls in a request that is not passed on", (line["status"], line["acts"][0]["reason"]), (403, "\x9b31m\x85"))
+    judge("none of them is there as it is", not set(JOURNAL.read_text()) & set(marks + "\x9b\x85"))
+
+
 def hidden(folder: str) -> None:
     """A body in chunks whose sizes take more than a megabyte would not be in memory, so it is not passed on."""
     run("chown www-data /var/lib/nginx/body")
