@@ -1,18 +1,25 @@
 """The rules of four eyes: what one name did keeps it from the other step."""
 import json
+from typing import Literal
 
 from office_gate.access import Access, Person
-from office_gate.body import Json
+from office_gate.body import Json, number_in
 from office_gate.catalogue import Aggregations
 from office_gate.deciding import DAY
 from office_gate.errors import Answered
 from office_gate.facts import Facts, made_with
 from office_gate.office import Answer, Office
-from office_gate.words import DECISIONS
+from office_gate.sendings import records_sent
+from office_gate.words import DECISIONS, RUN
 
 OPENS = "confirmer-does-not-open"
 CHANGES = "changer-does-not-open"
 CARRIES = "opener-does-not-carry-out"
+SENDS = "sender-does-not-receive"
+RECEIVES = "receiver-does-not-open"
+
+Opener = Literal["own", "other", "none", "unknown"]
+"""who opened the run that is open: this name, another one; or none is open; or nobody here knows"""
 
 
 def refused(rule: str, **more: object) -> Answered:
@@ -25,38 +32,70 @@ class Eyes:
     def __init__(self, access: Access, facts: Facts, aggregations: Aggregations, office: Office) -> None:
         self.rules, self.facts, self.aggregations, self.office = access.rules, facts, aggregations, office
 
-    def is_opener(self, person: Person) -> bool:
-        """Whether this name opened the run that is open. What is not in the journal the catalogue may know."""
-        openers = self.facts.openers()
-        if openers:
-            return person.name in openers
-        return person.signs in self.aggregations.open_runs.values()
+    # ---- the run that is open
 
-    def carry_out(self, person: Person) -> None:
-        if self.rules.opener_does_not_carry_out and self.is_opener(person):
+    async def opener(self, person: Person) -> Opener:
+        """Returns who opened the run that is open, by the journal, or else by the catalogue."""
+        opened = self.facts.opened()
+        if opened and not await self.is_closed(person, [number for _, number in opened if number is not None]):
+            if person.name in (name for name, _ in opened):
+                return "own"
+            # several machines: a run that nobody here saw opened may be another machine's
+            is_sure = all(number is not None for _, number in opened) or not await self.office.is_member(person.name)
+            return "other" if is_sure else "unknown"
+        if self.facts.closed_at() < self.aggregations.moment:
+            for number, by in self.aggregations.open_runs.items():
+                if not await self.is_closed(person, [number]):
+                    return "own" if by == person.signs else "other"
+        return "unknown" if await self.office.is_member(person.name) else "none"
+
+    async def is_closed(self, person: Person, numbers: list[int]) -> bool:
+        """Reports whether another machine closed these runs. On one machine each closing is in the journal."""
+        if not numbers or not await self.office.is_member(person.name):
+            return False
+        for number in numbers:
+            answer = await self.read(person, f"/certificates/{number}", (200, 404))
+            if answer.status == 404:
+                return False
+            self.facts.closed(number)
+        return True
+
+    async def carry_out(self, person: Person) -> None:
+        """Refuses whoever opened the run. Where several machines act, an opener whom nobody knows may be anybody."""
+        if self.rules.opener_does_not_carry_out and await self.opener(person) in ("own", "unknown"):
             raise refused(CARRIES)
+
+    async def has_part(self, person: Person) -> bool:
+        """Reports whether the name opened the run that is open, or may carry it out."""
+        opener = await self.opener(person)
+        return opener == "own" or opener == "other" and any(person.may_all(it) for it in RUN if it != "open-run")
+
+    # ---- a list
 
     async def acts(self, person: Person, acts: list[Json]) -> None:
         """Looks at a list as a whole, and at what the name did before."""
-        found = [it["act"] for it in acts]
-        if "run-step" in found:
-            self.carry_out(person)
-            if self.rules.opener_does_not_carry_out and "open-run" in found:
-                raise refused(CARRIES, place=found.index("run-step"))
+        kinds = [it["act"] for it in acts]
+        if "run-step" in kinds:
+            await self.carry_out(person)
+            if self.rules.opener_does_not_carry_out and "open-run" in kinds:
+                raise refused(CARRIES, place=kinds.index("run-step"))
         decided = [place for place, act in enumerate(acts) if self.decides(act)]
-        if decided and ("open-run" in found or self.is_opener(person)):
-            raise refused(self.rule_of(found[decided[0]]), place=decided[0])
-        if self.looks():
-            for place, act in enumerate(acts):
-                if act["act"] == "open-run":
-                    await self.opened(person, str(act.get("day")), place)
+        if decided and ("open-run" in kinds or await self.has_part(person)):
+            raise refused(self.rule_of(kinds[decided[0]]), place=decided[0])
+        if self.rules.sender_does_not_receive and "receipt" in kinds:
+            await self.received(person, acts)
+        for place, act in enumerate(acts):
+            if act["act"] == "open-run":
+                await self.opened(person, str(act.get("day")), place)
 
     def looks(self) -> bool:
         """Whether a rule looks at the records that a run may take."""
         return self.rules.confirmer_does_not_open or self.rules.changer_days is not None
 
     def decides(self, act: Json) -> bool:
-        """Whether an act is none for whoever opens a run, or has one open."""
+        """Whether an act is none for whoever opens a run, or has a part in the one that is open."""
+        if act["act"] == "receipt":
+            return self.rules.receiver_does_not_open
         if act["act"] in DECISIONS:
             return self.looks()
         # what is made with a schedule or a class of its own has it from whoever made it
@@ -64,22 +103,30 @@ class Eyes:
 
     def rule_of(self, kind: str) -> str:
         """Names the rule that an act breaks, which is switched on."""
+        if kind == "receipt":
+            return RECEIVES
         is_of_confirmers = kind in ("confirm", "event") or self.rules.changer_days is None
         return OPENS if is_of_confirmers and self.rules.confirmer_does_not_open else CHANGES
 
+    # ---- opening
+
     async def opened(self, person: Person, day: str, place: int) -> None:
         """Looks at each record that a run of that day may take."""
-        touched = self.facts.touched(person.name, self.rules.changer_days) if self.rules.changer_days else set()
-        confirmed = self.facts.confirmed(person.name)
         if not DAY.fullmatch(day):
             # the office refuses it
             return
-        answer = await self.office.get(person.name, f"/due/{day}", {"Office-Read": "newest"})
+        if self.rules.receiver_does_not_open:
+            await self.receives(person, place)
+        if self.looks():
+            await self.due(person, day, place)
+
+    async def due(self, person: Person, day: str, place: int) -> None:
+        touched = self.facts.touched(person.name, self.rules.changer_days) if self.rules.changer_days else set()
+        confirmed = self.facts.confirmed(person.name)
+        answer = await self.read(person, f"/due/{day}", (200, 400))
         if answer.status == 400:
             # the office refuses the act too
             return
-        if answer.status != 200:
-            raise Answered(503, "office")
         for row in json.loads(answer.body):
             # what does not count now may count again before the run comes to the record
             may_count = row["confirmed"] or f"record:{row['record']}" in confirmed
@@ -88,29 +135,60 @@ class Eyes:
             await self.changed(person, row, touched, place)
 
     async def changed(self, person: Person, row: Json, touched: set[str], place: int) -> None:
-        """Refuses a record to which the name gave its schedule or class, whoever confirms it."""
+        """Refuses a record whose due day the name moved, whoever confirms it."""
         number = row["record"]
         if f"record:{number}" in touched or f"class:{row['class']}" in touched:
             raise refused(CHANGES, place=place, record=number)
         if any(it.startswith("aggregation:") for it in touched):
-            answer = await self.record(person, number)
-            if answer.status != 200:
-                raise Answered(503, "office")
             # a file that nobody knows may lie in one that the name changed
-            file = answer.json()["aggregation"]
+            file = (await self.record(person, number))["aggregation"]
             if not self.aggregations.is_known(file) or any(f"aggregation:{it}" in touched
                                                            for it in self.aggregations.chain(file)):
                 raise refused(CHANGES, place=place, record=number)
-
-    async def record(self, person: Person, number: int) -> Answer:
-        return await self.office.get(person.name, f"/records/{number}", {"Office-Read": "newest"})
 
     async def is_confirmer(self, person: Person, number: int) -> bool:
         names = self.facts.confirmers(number)
         if names:
             return person.name in names
-        answer = await self.record(person, number)
-        if answer.status != 200:
-            raise Answered(503, "office")
-        confirmed = answer.json()["confirmed"]
+        confirmed = (await self.record(person, number))["confirmed"]
         return bool(confirmed) and confirmed["by"] == person.signs
+
+    # ---- receipts
+
+    async def receives(self, person: Person, place: int) -> None:
+        """Refuses a record of which the name filed the receipt, as long as no run ended it."""
+        for number in self.facts.received(person.name):
+            status = (await self.record(person, number, (200, 404))).get("status")
+            if status == "received":
+                raise refused(RECEIVES, place=place, record=number)
+            if status == "ended":
+                self.facts.gone.add(number)
+
+    async def received(self, person: Person, acts: list[Json]) -> None:
+        """Refuses a receipt of what the name sent: by a run that it opened, or of which it carried out a part."""
+        runs = self.facts.parts(person.name)
+        records = {number_in(it, "record"): place for place, it in enumerate(acts) if it["act"] == "receipt"}
+        if None in runs and await self.opener(person) != "none":
+            # a run that is not closed has no certificate of what it sent
+            raise refused(SENDS, place=min(records.values()))
+        for run in sorted(it for it in runs if it is not None):
+            if run not in self.facts.sent:
+                answer = await self.read(person, f"/certificates/{run}", (200, 404))
+                if answer.status == 404:
+                    continue
+                self.facts.sent[run] = records_sent(answer.body)
+            for number in self.facts.sent[run] & records.keys():
+                raise refused(SENDS, place=records[number], record=number)
+
+    # ---- what the office reports
+
+    async def record(self, person: Person, number: int, statuses: tuple[int, ...] = (200,)) -> Json:
+        found: Json = (await self.read(person, f"/records/{number}", statuses)).json()
+        return found
+
+    async def read(self, person: Person, path: str, statuses: tuple[int, ...]) -> Answer:
+        """Reads something of now; another answer than these decides nothing."""
+        answer = await self.office.get(person.name, path, {"Office-Read": "newest"})
+        if answer.status not in statuses:
+            raise Answered(503, "office")
+        return answer

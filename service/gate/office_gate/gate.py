@@ -21,7 +21,7 @@ from office_gate.eyes import Eyes
 from office_gate.facts import Facts
 from office_gate.journal import Journal
 from office_gate.metrics import Metrics
-from office_gate.office import UNKNOWN, Answer, Office
+from office_gate.office import REPEATED, UNKNOWN, Answer, Office
 from office_gate.scopes import Asking, Scopes
 from office_gate.turns import AtOnce, Turns
 
@@ -44,6 +44,8 @@ def answered(asked: Head, answer: Answer) -> dict[str, object]:
         found["answer"] = said
     if "Office-Position" in answer.lines:
         found["position"] = answer.lines["Office-Position"]
+    if REPEATED in answer.lines:
+        found["repeated"] = True
     if not answer.is_known or isinstance(said, dict) and "fault" in said:
         found["known"] = False
     return found
@@ -157,7 +159,7 @@ class Gate:
             deciding.resume(self.access, asked)
             async with self.acting.turn(asked.person.name, asked.ends):
                 await self.recover()
-                Eyes(self.access, self.facts, self.aggregations(), self.office).carry_out(asked.person)
+                await Eyes(self.access, self.facts, self.aggregations(), self.office).carry_out(asked.person)
                 answer, written = await self.send(asked, entry, "/run/resume", None)
         return await self.durable(answer, written)
 
