@@ -164,8 +164,12 @@ class Appender:
             time.sleep(AGAIN_SECONDS)
 
     def end_found(self, group: list[Waiting], found: dict[str, tuple[int, str]]) -> None:
-        """Ends those that an earlier transaction has put into the log."""
+        """Ends those that an earlier transaction has put into the log.
+
+        It was an earlier request, unless one of this request may have done it, whose outcome nobody knows.
+        """
         for it in group:
             if it.request.key in found:
                 position, digest = found[it.request.key]
-                it.end(Appended(position) if digest == it.request.digest else Appended(None, "key"))
+                is_repeated = it.is_clear
+                it.end(Appended(position, None, is_repeated) if digest == it.request.digest else Appended(None, "key"))

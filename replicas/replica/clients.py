@@ -148,6 +148,8 @@ class Connection:
         more += b"Office-Age: %s\r\n" % (answer.age or self.service.age()).encode()
         if key is not None:
             more += b"Idempotency-Key: %s\r\n" % key.encode()
+        if answer.is_repeated:
+            more += b"Office-Repeated: 1\r\n"
         return content.replace(b"\r\n", b"\r\n" + more, 1)
 
     async def answer(self, asked: Asked) -> Answer:

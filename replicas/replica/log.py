@@ -44,10 +44,11 @@ class Request(NamedTuple):
 
 
 class Appended(NamedTuple):
-    """What became of a request: its position, or the error that its client gets."""
+    """What became of a request: its position, or the error that its client gets; and whether an earlier one put it there."""
 
     position: int | None
     error: str | None = None
+    is_repeated: bool = False
 
 
 class End(NamedTuple):

@@ -27,12 +27,14 @@ Told = TypeVar("Told")
 
 
 class Answer(NamedTuple):
-    """The bytes of the office, or the name of an error; the position that they belong to; and the
-    age of a reading, in seconds or `unknown`. Any other answer has the age as it is written."""
+    """The bytes of the office, or the name of an error; the position that they belong to; the age of a reading, in
+    seconds or `unknown`; and whether an earlier request with this key was done. Any other answer has the age as it is
+    written."""
 
     position: int | None
     content: bytes | str
     age: str | None = None
+    is_repeated: bool = False
 
 
 async def is_told(told: Future[bool], seconds: float) -> bool:
@@ -76,7 +78,7 @@ class Service:
         answer = self.follower.newest_answer(position, key)
         if answer is None:
             answer = await self.in_thread(functools.partial(self.follower.answer, position, key))
-        return Answer(position, "unknown" if answer is None else answer)
+        return Answer(position, "unknown" if answer is None else answer, is_repeated=appended.is_repeated)
 
     async def read(self, method: str, path: str, wanted: str | None, after: int) -> Answer:
         """The answer to a request that changes nothing, from the own office.

@@ -147,6 +147,10 @@ def keys(cluster: Cluster) -> None:
     judge("keys: the same request with the same key is answered the same by each member",
           len({(it.status, it.body, it.position) for it in replies}) == 1
           and replies[0].status == 200, replies)
+    # a member that does not know what became of its own try marks nothing
+    marked = [any(posted(cluster, machine, [record(200)], "k-1").lines.get("office-repeated") == "1" for _ in range(20))
+              for machine in range(3)]
+    judge("keys: each member marks an answer of before", all(marked), marked)
     reply = posted(cluster, 1, [record(201)], "k-1")
     judge("keys: another body with that key is 422, and not done",
           (reply.status, reply.body) == (422, b'{"error":"key"}'), reply)
@@ -159,6 +163,7 @@ def keys(cluster: Cluster) -> None:
     judge("keys: without a key each request is an entry of its own",
           len({it.position for it in replies}) == 3 and "same" not in bodies[0]
           and all(it.get("same") for it in bodies[1:]), replies)
+    judge("keys: and none of them is marked", not any("office-repeated" in it.lines for it in replies), replies)
 
 
 # what is changed in good settings, and what has to be said of it; None takes a member away

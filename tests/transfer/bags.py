@@ -97,6 +97,13 @@ def again(folder: pathlib.Path) -> None:
         judge("a second run says that the bag is there already", second.status == 0 and "the same" in second.out, second)
         judge("a second run gives the same bytes", first.status == other.status == 0
               and files_in(folder / "two") == before == files_in(folder / "one"))
+        order = (folder / "one.order.txt").read_bytes()
+        judge("each folder has an order of its own, with a challenge of its own", order != (folder / "two.order.txt").read_bytes()
+              and all(order.count(it) == 1 for it in (b"\nFOLDER one\n", b"\nCERTIFICATE 1\n", b"\nCHALLENGE ")), order)
+        (folder / "two.order.txt").unlink()
+        lost, kept = transfer(fake, folder / "two"), transfer(fake, folder / "one")
+        judge("a second run leaves the order, and writes one that was lost", (lost.status, kept.status) == (0, 0)
+              and (folder / "one.order.txt").read_bytes() == order and (folder / "two.order.txt").is_file(), (lost, kept))
         one, two = (transfer(fake, folder / "package", "--form", "eark") for _ in range(2))
         judge("a second package is the same", (one.status, two.status) == (0, 0) and "the same" in two.out, (one, two))
         (folder / "two/data/000001_A_One.txt").write_bytes(b"ONE")
@@ -108,7 +115,8 @@ def again(folder: pathlib.Path) -> None:
         for name in ("file", "link"):
             done = transfer(fake, folder / name)
             judge(f"a {name} in the place is left as it is", done.status == 1, done)
-        judge("nothing else is left", {it.name for it in folder.iterdir()} == {"one", "two", "package", "file", "link"},
+        orders = {f"{it}.order.txt" for it in ("one", "two", "package")}
+        judge("nothing else is left", {it.name for it in folder.iterdir()} == {"one", "two", "package", "file", "link"} | orders,
               sorted(it.name for it in folder.iterdir()))
 
 

@@ -39,13 +39,16 @@ def stops(folder: pathlib.Path) -> None:
                 cut += 1
             if target.exists():
                 subprocess.run(["rm", "-r", str(target)], check=True)
+            order = folder / f"{target.name}.order.txt"
+            cut += order.exists() and b"\nCHALLENGE " not in order.read_bytes()
         print(f"    kills: {KILLS}, while it was written: {during}, after it had its name: {whole}")
         judge("some kills met the writing", during > KILLS // 4, (during, whole))
         judge("no kill left a folder that looks whole and is not", cut == 0, cut)
         done = [run(*words, "1", folder / f"bag{at}") for at in range(4)]
         judge("the next run makes the same whole bag", all(it.status == 0 for it in done)
               and all(files_in(folder / f"bag{at}") == model for at in range(4)), done)
-        judge("and leaves nothing else", {it.name for it in folder.iterdir()} == {"model", *(f"bag{it}" for it in range(4))},
+        names = {"model", *(f"bag{it}" for it in range(4))}
+        judge("and leaves nothing but the orders", {it.name for it in folder.iterdir()} == names | {f"{it}.order.txt" for it in names},
               sorted(it.name for it in folder.iterdir()))
 
 
@@ -60,4 +63,5 @@ def beside(folder: pathlib.Path) -> None:
         both.append(subprocess.Popen(words, stdout=subprocess.PIPE, stderr=subprocess.PIPE))
         ends = [(it.wait(), it.communicate()) for it in both]
         judge("two at once make one bag", [it[0] for it in ends] == [0, 0]
-              and reader.problems_of(str(folder / "bag")) == [] and [it.name for it in folder.iterdir()] == ["bag"], ends)
+              and reader.problems_of(str(folder / "bag")) == []
+              and {it.name for it in folder.iterdir()} == {"bag", "bag.order.txt"}, ends)

@@ -8,6 +8,7 @@ import json
 import os
 import pathlib
 import random
+import re
 import sqlite3
 
 import csip
@@ -72,10 +73,15 @@ def waiting(copy: pathlib.Path) -> list[dict[str, str]]:
     return list(csv.DictReader(io.StringIO(done.out, newline="")))
 
 
+def challenge_of(bag: pathlib.Path) -> bytes:
+    """The challenge of the order beside a bag."""
+    return re.findall(b"(?m)^CHALLENGE ([0-9a-f]{64})$", bag.with_name(bag.name + ".order.txt").read_bytes())[0]
+
+
 def archives_list(bag: pathlib.Path) -> tuple[str, set[int], set[int]]:
     """What the archive answers: some missing, some differing, some twice, some under another name; who gets a receipt."""
-    rng = random.Random(1000)
-    every = {int(pathlib.Path(it).name[:6]): (it, digest((bag / it).read_bytes())) for it in files_in(bag / ".")
+    rng, challenge = random.Random(1000), challenge_of(bag)
+    every = {int(pathlib.Path(it).name[:6]): (it, digest(challenge + data)) for it, data in files_in(bag).items()
              if it.startswith("data/")}
     numbers = rng.sample(sorted(every), 60)
     missing, differing, twice, renamed, both = (set(numbers[at:at + 12]) for at in range(0, 60, 12))

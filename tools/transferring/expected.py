@@ -4,7 +4,7 @@ from __future__ import annotations
 import csv
 import hashlib
 import io
-from dataclasses import dataclass
+from dataclasses import dataclass, replace
 from pathlib import Path
 
 from transferring import bag, package
@@ -16,10 +16,14 @@ PLACES = ("metadata", "metadata/descriptive")
 
 @dataclass(frozen=True)
 class Part:
-    """A file of a record: its path in the bag, which is empty if the bag lacks it, and its digest."""
+    """A file of a record: its path in the bag, which is empty if the bag lacks it, its digest, and the sum in the list.
+
+    The list has the digest, or what answers a challenge; then it has nothing of a file that the bag lacks.
+    """
 
     path: str
     digest: str
+    answer: str
 
 
 @dataclass(frozen=True)
@@ -40,13 +44,41 @@ def read(at: Path) -> list[Sent]:
     larges: dict[int, list[Part]] = {}
     if (base / "files.csv").is_file():
         for row in rows(at, base / "files.csv", sealed):
-            larges.setdefault(int(row["record"]), []).append(Part(row["path"], row["sha256"]))
+            larges.setdefault(int(row["record"]), []).append(part_in(row))
     found = [Sent(int(row["record"]), row["ref"],
-                  (Part(row["path"], row["sha256"]), *larges.get(int(row["record"]), [])))
+                  (part_in(row), *larges.get(int(row["record"]), [])))
              for row in rows(at, base / "records.csv", sealed)]
     if not found:
         raise Failed(f"{at} has no records", WRONG)
     return found
+
+
+def part_in(row: dict[str, str]) -> Part:
+    return Part(row["path"], row["sha256"], row["sha256"])
+
+
+def proved(at: Path, sent: list[Sent], challenge: str) -> list[Sent]:
+    """Returns what was sent with the answers to a challenge, which the files of the bag give."""
+    return [replace(record, parts=tuple(replace(it, answer=answer_of(at, it, challenge)) for it in record.parts))
+            for record in sent]
+
+
+def answer_of(at: Path, part: Part, challenge: str) -> str:
+    """Returns the SHA-256 of a challenge followed by a file, which has to be the one that was sent."""
+    if not part.path:
+        return ""
+    plain, answer = hashlib.sha256(), hashlib.sha256(challenge.encode())
+    try:
+        with (at / part.path).open("rb") as file:
+            while block := file.read(1 << 20):
+                plain.update(block)
+                answer.update(block)
+    except OSError as why:
+        raise Failed(f"{at / part.path} cannot be read: the answer to the challenge is compared with the files: {why}",
+                     WRONG) from why
+    if plain.hexdigest() != part.digest:
+        raise Failed(f"{at / part.path} was changed after it was written", WRONG)
+    return answer.hexdigest()
 
 
 def sealed_in(at: Path) -> dict[str, str]:

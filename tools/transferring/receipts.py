@@ -5,6 +5,7 @@ from collections import Counter
 from dataclasses import dataclass, field
 
 from transferring.expected import Part, Sent
+from transferring.failing import WRONG, Failed
 from transferring.lists import Line, Read
 
 Key = tuple[int, int]
@@ -45,13 +46,31 @@ class Index:
             return None
         places = [key for key in self.parts if key[0] == record]
         # a digest that none of its parts has is compared with that of the content, and differs
-        return next((key for key in places if self.parts[key].digest == line.digest), (record, 0))
+        return next((key for key in places if self.parts[key].answer == line.digest), (record, 0))
 
 
 def ends_of(path: str) -> list[str]:
     """The path, and what is left of it without its first folder, its first two, and so on."""
     words = path.split("/") if path else []
     return ["/".join(words[at:]) for at in range(len(words))]
+
+
+def refuse_own(sent: list[Sent], read: Read) -> None:
+    """Refuses a list of plain sums that could be the folder's own: each of its lines has a path and a sum from there."""
+    own = {(part.path, part.digest) for record in sent for part in record.parts}
+    if all((it.path, it.digest) in own for it in read.lines):
+        raise Failed("each line of the list has a path and a sum as the folder itself has them, so it may come from the "
+                     "folder: ask for a list by the command of the order", WRONG)
+
+
+def refuse_plain(sent: list[Sent], read: Read) -> None:
+    """Refuses a list that answers no challenge, but has the sums that the folder has itself."""
+    parts = [part for record in sent for part in record.parts]
+    digests = {it.digest for it in read.lines}
+    if digests.isdisjoint(it.answer for it in parts) and not digests.isdisjoint(it.digest for it in parts):
+        raise Failed("the list has the plain sums of the files, which are in the folder itself, so it does not show that the "
+                     "archive has the files: ask for a list by the command of the order, or take it --without-proof",
+                     WRONG)
 
 
 def judge(sent: list[Sent], read: Read) -> Judged:
@@ -85,16 +104,16 @@ def part_is_there(record: Sent, part: Part, lines: list[Line], renamed: Counter[
     digests = {it.digest for it in lines}
     if len(lines) > 1:
         found.twice.append(f"{name}: lines {', '.join(str(it.at) for it in lines)}")
-    if digests == {part.digest}:
+    if digests == {part.answer}:
         return True
     if digests:
-        other = ", ".join(sorted(digests - {part.digest}))
-        found.differing.append(f"{name}: the archive has {other}, and {part.digest} was sent")
+        other = ", ".join(sorted(digests - {part.answer}))
+        found.differing.append(f"{name}: the archive has {other}, and {part.answer} was expected")
         return False
-    if renamed[part.digest] > 0:
-        renamed[part.digest] -= 1
+    if renamed[part.answer] > 0:
+        renamed[part.answer] -= 1
         return True
-    found.missing.append(f"{name}: {part.digest}")
+    found.missing.append(f"{name}: {part.answer or 'the folder lacks the file'}")
     return False
 
 

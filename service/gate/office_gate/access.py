@@ -1,8 +1,10 @@
 """Who may do what: roles, the names that have them, and the rules of four eyes, as the settings say."""
 from dataclasses import dataclass, field
+from functools import cached_property
 from pathlib import Path
 from zoneinfo import ZoneInfo
 
+from office_gate.alike import folded
 from office_gate.patterns import fits
 
 
@@ -58,6 +60,8 @@ class Rules:
     opener_does_not_carry_out: bool = False
     confirmer_does_not_open: bool = False
     changer_days: int | None = None
+    sender_does_not_receive: bool = False
+    receiver_does_not_open: bool = False
     reasons: frozenset[str] = frozenset()
 
 
@@ -81,15 +85,20 @@ class Access:
     def person(self, name: str) -> Person:
         """Returns whom a name is; one that the settings do not name has the rights of `*`, if there are any.
 
-        It has none if the name is the text that somebody else signs.
+        It has none if the name looks like another one, or like the text that somebody else signs.
         """
         known = self.people.get(name)
         if known:
             return known
         other = self.others
-        if other is None or any(name == it.signs for it in self.people.values()):
+        if other is None or folded(name) in self.taken:
             return Person(name, name)
         return Person(name, name, other.roles, other.grants)
+
+    @cached_property
+    def taken(self) -> set[str]:
+        """How the names and texts of the settings look."""
+        return {folded(text) for it in self.people.values() for text in (it.name, it.signs)}
 
     def host(self) -> str:
         return self.site.split("://", 1)[1]

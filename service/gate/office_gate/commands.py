@@ -4,7 +4,7 @@ import os
 import sys
 from pathlib import Path
 
-from office_gate import settings
+from office_gate import alone, settings
 from office_gate.errors import Refused
 from office_gate.words import MAY, READS
 
@@ -21,10 +21,11 @@ def serve(it: argparse.Namespace) -> int:
 
 
 def check(it: argparse.Namespace) -> int:
-    """read a file of settings, and say what is wrong"""
+    """read a file of settings, and say what is wrong, and which name alone can destroy"""
     access = settings.read(it.settings)
     roles = {role for person in access.people.values() for role in person.roles}
     print(f"names: {len(access.people)}, roles that a name has: {len(roles)}, SHA-256 {access.digest}")
+    print("\n".join(alone.statement(access)))
     return 0
 
 

@@ -22,7 +22,11 @@ CREATE INDEX IF NOT EXISTS of_name ON touches(name, at);
 CREATE TABLE IF NOT EXISTS aggregations (line INTEGER, place INTEGER, at REAL, kind TEXT, number INTEGER,
     parent INTEGER, class TEXT, PRIMARY KEY (line, place));
 CREATE TABLE IF NOT EXISTS runs (line INTEGER, place INTEGER, name TEXT, number INTEGER, PRIMARY KEY (line, place));
+CREATE TABLE IF NOT EXISTS parts (line INTEGER, place INTEGER, name TEXT, run INTEGER, PRIMARY KEY (line, place));
+CREATE TABLE IF NOT EXISTS closed (one INTEGER PRIMARY KEY CHECK (one = 1), line INTEGER, at REAL);
 """
+VERSION = 2
+"""of these tables, and of what is noted in them; what another gate noted is made anew from the journal"""
 MARGIN = 120.0
 """so many seconds before its moment the journal is read on from a catalogue: what is done twice makes no difference"""
 AGGREGATION = re.compile("aggregation:([1-9][0-9]{0,9})")
@@ -53,19 +57,35 @@ def thing_of(act: Json) -> str | None:
     return None
 
 
+def is_early(act: Json) -> bool:
+    """Reports whether a record is filed with a day of origin before the day of the act, from which its period may begin."""
+    return act["act"] == "add-record" and str(act.get("originated")) < str(act.get("day"))
+
+
 def made_with(act: Json, number: object) -> str | None:
-    """Names what an act made, if it gave it a schedule or a class of its own."""
+    """Names what an act made, if it gave it a schedule or a class of its own, or an early day of origin."""
     kind, own = act["act"], (act.get("class"), act.get("schedule"))
     if kind == "add-class":
         return f"class:{act.get('code')}"
-    if kind in ("add-record", "add-aggregation") and number is not None and own != (None, None):
+    is_own = own != (None, None) or is_early(act)
+    if kind in ("add-record", "add-aggregation") and number is not None and is_own:
         return f"{kind.removeprefix('add-')}:{number}"
     return None
 
 
+def certificate_in(answer: object) -> int | None:
+    """Returns the number of the run that an answer says was closed."""
+    number = answer.get("certificate") if isinstance(answer, dict) else None
+    return number if type(number) is int else None
+
+
 def opened(path: Path) -> sqlite3.Connection:
     db = sqlite3.connect(path, isolation_level=None)
-    db.executescript("PRAGMA journal_mode = WAL; PRAGMA synchronous = NORMAL;" + TABLES)
+    db.executescript("PRAGMA journal_mode = WAL; PRAGMA synchronous = NORMAL;")
+    is_new = not db.execute("SELECT count(*) FROM sqlite_schema").fetchone()[0]
+    if not is_new and db.execute("PRAGMA user_version").fetchone() != (VERSION,):
+        raise sqlite3.DatabaseError("it was made by another version of the gate")
+    db.executescript(f"PRAGMA user_version = {VERSION};" + TABLES)
     if db.execute("PRAGMA quick_check(1)").fetchone() != ("ok",):
         raise sqlite3.DatabaseError("its pages are damaged")
     return db
@@ -75,6 +95,9 @@ class Facts:
     """The tables, in a file beside the journal."""
 
     def __init__(self, path: Path) -> None:
+        # what does not change any more, once the office has reported it: what a run sent, and what a run ended
+        self.sent: dict[int, frozenset[int]] = {}
+        self.gone: set[int] = set()
         try:
             self.db = opened(path)
         except sqlite3.DatabaseError as error:
@@ -94,7 +117,7 @@ class Facts:
         return Head(*found) if found else None
 
     def forget(self) -> None:
-        for table in ("folded", "touches", "aggregations", "runs"):
+        for table in ("folded", "touches", "aggregations", "runs", "parts", "closed"):
             self.db.execute(f"DELETE FROM {table}")
 
     def begin(self) -> None:
@@ -112,19 +135,30 @@ class Facts:
 
     def fold(self, asked: Json, answered: Json, line: int, at: float) -> None:
         """Takes what a request did, or may have done, of its two lines."""
+        if answered.get("repeated"):
+            # a member gave the answer of an earlier request: nothing was done now
+            return
         name, answers = str(asked["name"]), answered.get("answers")
         if asked["request"] == "POST /run/resume":
-            if str(answered.get("status")) == "200" or is_none_open(answered.get("answer")):
-                self.closed()
+            self.stepped(answered.get("answer"), name, (line, 0, at), bool(answered.get("known", True)))
             return
         for place, act in enumerate(asked.get("acts") or []):
             answer = answer_at(answers, place)
             if answer is None and answered.get("known", True):
                 continue
-            if is_none_open(answer):
-                self.closed()
+            if act["act"] == "run-step":
+                self.stepped(answer, name, (line, place, at), answer is not None)
             elif answer is None or "refused" not in answer:
                 self.done(act, answer, name, (line, place, at))
+
+    def stepped(self, answer: object, name: str, where: tuple[int, int, float], is_known: bool) -> None:
+        """Takes a step of a run, or the carrying out of one to its end."""
+        line, _, at = where
+        number = certificate_in(answer)
+        if number is not None or not is_known or isinstance(answer, dict) and "outcome" in answer:
+            self.took_part(where, name, None)
+        if number is not None or is_none_open(answer):
+            self.closed(number, line, at)
 
     def done(self, act: Json, answer: Json | None, name: str, where: tuple[int, int, float]) -> None:
         kind, (line, place, at) = act["act"], where
@@ -140,19 +174,31 @@ class Facts:
             self.note(where, kind if answer else "unknown", int(found[1]), act)
         elif kind == "open-run":
             if answer:
-                self.closed()
-            self.db.execute("INSERT OR REPLACE INTO runs VALUES (?, ?, ?, ?)",
-                            (line, place, name, None if number is None else int(number)))
-        elif kind == "run-step" and answer and "certificate" in answer:
-            self.closed()
+                # the office opens none while another is open
+                self.db.execute("DELETE FROM runs")
+            run = None if number is None else int(number)
+            self.db.execute("INSERT OR REPLACE INTO runs VALUES (?, ?, ?, ?)", (line, place, name, run))
+            self.took_part(where, name, run)
 
     def note(self, where: tuple[int, int, float], kind: str, number: int, act: Json) -> None:
         line, place, at = where
         self.db.execute("INSERT OR REPLACE INTO aggregations VALUES (?, ?, ?, ?, ?, ?, ?)",
                         (line, place, at, kind, number, number_in(act, "parent"), text(act.get("class"))))
 
-    def closed(self) -> None:
-        self.db.execute("DELETE FROM runs")
+    def took_part(self, where: tuple[int, int, float], name: str, run: int | None) -> None:
+        """Notes who opened a run, or carried out a part of it. Without a number it is the run that is closed next."""
+        line, place, _ = where
+        self.db.execute("INSERT OR REPLACE INTO parts VALUES (?, ?, ?, ?)", (line, place, name, run))
+
+    def closed(self, number: int | None, line: int | None = None, at: float = 0.0) -> None:
+        """Takes that a run was closed: that of the number with those before it, or else all that are known."""
+        if number is None:
+            number = self.db.execute("SELECT max(number) FROM runs").fetchone()[0]
+            self.db.execute("DELETE FROM runs")
+        self.db.execute("DELETE FROM runs WHERE number IS NULL OR number <= ?", (number,))
+        self.db.execute("UPDATE parts SET run = ? WHERE run IS NULL", (number,))
+        if line is not None:
+            self.db.execute("INSERT OR REPLACE INTO closed VALUES (1, ?, ?)", (line, at))
 
     # ---- what is known
 
@@ -169,9 +215,26 @@ class Facts:
             elif number in base.parents:
                 base.classes[number] = code
 
-    def openers(self) -> set[str]:
-        """Returns who opened the run that is open, as far as the journal says."""
-        return {name for (name,) in self.db.execute("SELECT name FROM runs")}
+    def opened(self) -> list[tuple[str, int | None]]:
+        """Lists who opened the run that is open, as far as the journal says, and its number."""
+        return self.db.execute("SELECT name, number FROM runs").fetchall()
+
+    def closed_at(self) -> float:
+        """Returns when the office last answered that a run was closed, or that none was open."""
+        found = self.db.execute("SELECT at FROM closed").fetchone()
+        return float(found[0]) if found else 0.0
+
+    def parts(self, name: str) -> set[int | None]:
+        """Lists the runs that a name opened or carried out. None is a run that is not known to be closed."""
+        return {run for (run,) in self.db.execute(
+            "SELECT DISTINCT CASE WHEN run IN (SELECT number FROM runs) THEN NULL ELSE run END FROM parts WHERE name = ?",
+            (name,))}
+
+    def received(self, name: str) -> list[int]:
+        """Lists the records of which a name filed a receipt, or may have, but for those that are known to be ended."""
+        found = self.db.execute("SELECT DISTINCT thing FROM touches WHERE name = ? AND kind IN ('receipt', 'receipt?')",
+                                (name,))
+        return sorted({int(thing.removeprefix("record:")) for (thing,) in found} - self.gone, reverse=True)
 
     def confirmers(self, record: int) -> set[str]:
         """Returns who confirmed a record last; more than one name if nobody knows whose was the last."""

@@ -23,7 +23,7 @@ from office_gate.eyes import Eyes
 from office_gate.facts import Facts
 from office_gate.journal import Journal
 from office_gate.metrics import Metrics
-from office_gate.office import UNKNOWN, Answer, Office
+from office_gate.office import REPEATED, UNKNOWN, Answer, Office
 from office_gate.own_catalogue import OwnCatalogues
 from office_gate.questions import Questions
 from office_gate.scopes import Scopes
@@ -62,6 +62,8 @@ def answered(asked: Head, answer: Answer) -> dict[str, object]:
         found["answer"] = said
     if "Office-Position" in answer.lines:
         found["position"] = answer.lines["Office-Position"]
+    if REPEATED in answer.lines:
+        found["repeated"] = True
     if not answer.is_known or isinstance(said, dict) and "fault" in said:
         found["known"] = False
     return found
@@ -177,7 +179,7 @@ class Gate:
         """Asks for what a run's opening needs of many records, while others act. It is judged under the turn."""
         days = [str(act.get("day")) for act in acts if act["act"] == "open-run"]
         eyes = Eyes(self.access, self.facts, self.aggregations(), questions)
-        if not days or not eyes.looks():
+        if not days or not eyes.asks_of_records():
             return
         with self.lists.one(asked.person.name, self.access.lists_at_once):
             questions.is_ahead = True
@@ -232,7 +234,7 @@ class Gate:
                     access, asked = await self.now(asked, entry)
                     deciding.resume(access, asked)
                     questions = Questions(self.office, self.catalogue)
-                    Eyes(access, self.facts, self.aggregations(), questions).carry_out(asked.person)
+                    await Eyes(access, self.facts, self.aggregations(), questions).carry_out(asked.person)
                     if self.counts(access):
                         break
                 answer, written = await self.send(asked, entry, "/run/resume", None)

@@ -40,7 +40,9 @@ def ends_of() -> float:
 
 
 UNKNOWN = Answer(502, b'{"error":"unknown"}', is_known=False)
-BACK_LINES = ("Allow", "Office-Position", "Office-Age")
+REPEATED = "Office-Repeated"
+"""the line by which a member says that an earlier request with this key has this answer"""
+BACK_LINES = ("Allow", "Office-Position", "Office-Age", REPEATED)
 
 
 class Office:
@@ -52,6 +54,14 @@ class Office:
             raise Refused(2, f"--office '{address}' is no HOST:PORT")
         self.address, self.at = address, (host, int(port))
         self.turns = Turns(AT_ONCE)
+        # whether the last answer was that of a member, or None before the first one
+        self.answers_as_member: bool | None = None
+
+    async def is_member(self, name: str) -> bool:
+        """Reports whether a member of an office on several machines answers here: each of its answers has an age."""
+        if self.answers_as_member is None:
+            await self.get(name, "/certificates/0")
+        return bool(self.answers_as_member)
 
     async def get(self, name: str, path: str, lines: dict[str, str] | None = None) -> Answer:
         """Reads something. A reading is asked again if its answer was lost."""
@@ -90,6 +100,7 @@ class Office:
             return UNKNOWN
         except asking.Lost:
             return None if is_reading else UNKNOWN
+        self.answers_as_member = "office-age" in found.lines
         back = {it: found.lines[it.lower()] for it in BACK_LINES if it.lower() in found.lines}
         is_known = is_reading or not is_lost(found.status, found.body)
         return Answer(found.status, found.body, found.lines.get("content-type", "application/json"), back, is_known)

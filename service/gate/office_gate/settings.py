@@ -8,13 +8,16 @@ from typing import Any
 from zoneinfo import ZoneInfo, ZoneInfoNotFoundError
 
 from office_gate.access import Access, Grant, Person, Rules
+from office_gate.alike import folded, scripts
 from office_gate.errors import Refused
 from office_gate.patterns import is_pattern
 from office_gate.words import MAY, READS
 
 NAME = re.compile(r"[A-Za-z0-9._@-]{1,64}")
 ROLE = re.compile(r"[a-z0-9-]{1,32}")
-SITE = re.compile(r"https?://[A-Za-z0-9.\[\]:-]+")
+SITE = re.compile(r"https://[A-Za-z0-9.\[\]:-]+|http://(localhost|127(\.\d{1,3}){3}|\[::1\])(:\d+)?", re.ASCII)
+RULES = ("opener-does-not-carry-out", "confirmer-does-not-open", "sender-does-not-receive", "receiver-does-not-open")
+"""the rules that are on or off; each is a member of `Rules`, with _ in place of -"""
 MOST_SIGNED = 200
 """the longest text of an act, in bytes"""
 
@@ -72,7 +75,8 @@ class Reader:
 
     def site(self, words: list[str]) -> None:
         if len(words) != 1 or not SITE.fullmatch(words[0]):
-            raise Wrong("a site is an address such as https://records.city.example, without a path")
+            raise Wrong("a site is an address such as https://records.city.example, without a path; http is for this "
+                        "machine alone, as http://localhost:8080")
         self.set_once("site", words[0])
 
     def zone(self, words: list[str]) -> None:
@@ -113,21 +117,20 @@ class Reader:
             raise Wrong(f"'{words[0]}' signs already")
         if len(text.encode()) > MOST_SIGNED or not text.isprintable():
             raise Wrong(f"a text that is signed has at most {MOST_SIGNED} bytes, all of them printable")
+        if len(mixed := scripts(text)) > 1:
+            raise Wrong(f"'{text}' has letters of {' and '.join(sorted(mixed))}, which may look alike: take one script")
         self.signed[words[0]] = text
 
     def rule(self, words: list[str]) -> None:
         kind, rest = (words[0] if words else ""), words[1:]
-        if kind == "opener-does-not-carry-out" and not rest:
-            self.rules = replace(self.rules, opener_does_not_carry_out=True)
-        elif kind == "confirmer-does-not-open" and not rest:
-            self.rules = replace(self.rules, confirmer_does_not_open=True)
+        if kind in RULES and not rest:
+            self.rules = replace(self.rules, **{kind.replace("-", "_"): True})
         elif kind == "changer-does-not-open":
             self.rules = replace(self.rules, changer_days=number(rest, 1, 3650))
         elif kind == "reason-for":
             self.rules = replace(self.rules, reasons=self.rules.reasons | set(known(rest, MAY, "kind of act")))
         else:
-            raise Wrong("the rules are opener-does-not-carry-out, confirmer-does-not-open, changer-does-not-open DAYS "
-                        "and reason-for ACT..")
+            raise Wrong(f"the rules are {', '.join(RULES)}, changer-does-not-open DAYS and reason-for ACT..")
 
     def limit(self, words: list[str]) -> None:
         if words[:1] == ["requests"]:
@@ -185,12 +188,14 @@ class Reader:
                       rules=self.rules, **self.once)
 
     def apart(self, people: dict[str, Person]) -> None:
-        """Refuses two names that sign the same text: the office could not tell whose act it was."""
-        signed: dict[str, str] = {}
+        """Refuses a name or a text that looks like that of another name: the office could not tell whose act it was."""
+        owners: dict[str, tuple[str, str]] = {}
         for name, person in people.items():
-            other = signed.setdefault(person.signs, name)
-            if other != name:
-                raise Refused(2, f"{self.path}: '{other}' and '{name}' both sign '{person.signs}'")
+            for text in (name, person.signs):
+                other, like = owners.setdefault(folded(text), (name, text))
+                if other != name:
+                    raise Refused(2, f"{self.path}: '{like}' of '{other}' and '{text}' of '{name}' look alike: who did "
+                                     "what could not be told from `by`")
 
     def lines(self, data: bytes) -> Iterator[tuple[int, list[str]]]:
         """Gives the words of each line that has any."""

@@ -3,12 +3,12 @@ import asyncio
 from dataclasses import dataclass
 from pathlib import Path
 
-from office_gate import settings
+from office_gate import alone, settings
 from office_gate.acts_index import ActsIndex
 from office_gate.catalogue import Catalogue
 from office_gate.catching import catch_up, unanswered
 from office_gate.contents import Contents
-from office_gate.errors import Refused
+from office_gate.errors import Refused, say
 from office_gate.facts import Facts
 from office_gate.gate import Gate
 from office_gate.journal import Journal
@@ -53,6 +53,8 @@ def opened(places: Places, address: str) -> Gate:
 
 async def begin(gate: Gate) -> None:
     """Writes that the gate is open, and which requests an end of the gate left without an answer."""
+    for sentence in alone.statement(gate.access):
+        say(sentence)
     await gate.journal.append({"what": "opened", "settings": gate.access.digest})
     gate.told = gate.access.digest
     for line in unanswered(gate.journal.path, gate.facts):

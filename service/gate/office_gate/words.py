@@ -23,5 +23,6 @@ OF_RECORD = ("set-record-schedule", "confirm", "review", "receipt", "event")
 RUN = ("open-run", "run-step", RESUME)
 DECISIONS = ("confirm", "review", "event", "set-record-schedule", "reclassify", "set-class-schedule")
 """the kinds that decide which records a run takes: an event, too, may make a confirmation count again"""
-GIVES = ("set-record-schedule", "reclassify", "set-class-schedule", "review", "add-record", "add-aggregation", "add-class")
-"""the kinds that give a record, a file or a class its schedule or class"""
+GIVES = ("set-record-schedule", "reclassify", "set-class-schedule", "review", "event", "add-record", "add-aggregation",
+         "add-class")
+"""the kinds that move a due day: they give a schedule, a class, or the day from which a period begins"""

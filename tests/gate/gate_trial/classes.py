@@ -171,12 +171,12 @@ def read(world: World) -> None:
                                       {"Office-Method": "GET", "Office-Path": "/records/1/files/1"})[0], 204)
 
 
-def write_catalogue(world: World, moment: float, rows: list[dict]) -> None:
+def write_catalogue(world: World, moment: float, rows: list[dict], runs: list[dict] | None = None) -> None:
     """Puts a catalogue in place, as office-catalogue does."""
     stamp = world.catalogue / f"{moment}"
     stamp.mkdir(parents=True)
     at = time.strftime("%Y-%m-%dT%H:%M:%SZ", time.gmtime(moment))
-    for name, value in (("aggregations", rows), ("runs", [])):
+    for name, value in (("aggregations", rows), ("runs", runs or [])):
         (stamp / f"{name}.json.gz").write_bytes(gzip.compress(json.dumps({"moment": at, name: value}).encode()))
     new = world.catalogue / "new"
     new.symlink_to(stamp)

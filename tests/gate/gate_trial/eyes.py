@@ -6,11 +6,14 @@ import sqlite3
 import time
 
 from gate_trial.base import ROLES, filing, made
+from gate_trial.classes import write_catalogue
 from gate_trial.judging import judge, same
 from gate_trial.world import World, today
 
 NAMES = "".join(f"name {it} is records-manager\n" for it in ("anna", "berta", "carl", "records-manager"))
 NAMES += "name legal is legal\nname registry is registry\nlimit requests 64\nname anna signs Anna A.\n"
+# dora decides, and has no part in a run
+NAMES += "name dora is department\n"
 RULES = "rule opener-does-not-carry-out\nrule confirmer-does-not-open\nrule changer-does-not-open 30\n"
 OPEN, STEP = {"act": "open-run"}, {"act": "run-step"}
 
@@ -29,6 +32,8 @@ def tried(folder: pathlib.Path) -> None:
     counted_again(world)
     unconfirmed(world)
     unknown(world)
+    moving(world)
+    again(world)
     making(world)
     lone(world)
     reasons(world)
@@ -75,7 +80,8 @@ def confirmer(world: World) -> None:
     eyes(world, "berta does not confirm while it is open", "berta", rule, confirm(2))
     eyes(world, "nor give another schedule", "berta", "changer-does-not-open",
          {"act": "set-record-schedule", "record": 1, "schedule": "D0"})
-    same("carl may confirm meanwhile", world.act("carl", confirm(2))[0], 200)
+    eyes(world, "nor does carl, who may carry it out", "carl", rule, confirm(2))
+    same("dora may confirm meanwhile", world.act("dora", confirm(2))[0], 200)
     same("carl resumes", resume(world, "carl"), 200)
     same("both records ended", [world.get("carl", f"/records/{it}")[1]["status"] for it in (1, 2)], ["ended", "ended"])
     # a confirmation that the journal does not have, since it was made past the gate
@@ -176,8 +182,8 @@ def unconfirmed(world: World) -> None:
                                                      "schedule": "D0"})[0], 200)
     eyes(world, "nobody confirmed it yet", "carl", "changer-does-not-open", OPEN)
     same("anna opens", world.act("anna", OPEN)[0], 200)
-    same("berta confirms meanwhile, and carries it out", (world.act("berta", confirm(record))[0], resume(world, "berta")),
-         (200, 200))
+    same("dora confirms meanwhile, and berta carries it out", (world.act("dora", confirm(record))[0],
+                                                               resume(world, "berta")), (200, 200))
     same("the run took it", world.get("carl", f"/records/{record}")[1]["status"], "ended")
 
 
@@ -196,6 +202,61 @@ def unknown(world: World) -> None:
     eyes(world, "the gate does not know the file", "carl", "changer-does-not-open", OPEN)
     same("anna, who changed no file, opens", world.act("anna", OPEN)[0], 200)
     same("berta carries it out", resume(world, "berta"), 200)
+
+
+def moving(world: World) -> None:
+    """An event, and a day of origin before the filing, make a record due as a schedule does."""
+    rule = "changer-does-not-open"
+    record = world.act("registry", filing(50, 1, b"abc", schedule="E0"))[1][0]["number"]
+    same("carl records an event", world.act("carl", {"act": "event", "record": record, "occurred": today(-2)})[0], 200)
+    same("berta confirms", world.act("berta", confirm(record))[0], 200)
+    eyes(world, "who recorded the event", "carl", rule, OPEN)
+    same("anna opens", world.act("anna", OPEN)[0], 200)
+    eyes(world, "an event while it is open", "anna", "confirmer-does-not-open",
+         {"act": "event", "record": record, "occurred": today(-3)})
+    same("berta carries it out", resume(world, "berta"), 200)
+    # the class has a schedule whose period begins with the day of origin
+    world.act("records-manager", {"act": "add-schedule", "code": "O1", "trigger": "origin", "unit": "years", "count": 1,
+                                  "offset": "none", "action": "destroy"},
+              {"act": "add-class", "code": "ORIGIN", "title": "t", "schedule": "O1"})
+    file = world.act("records-manager", {"act": "add-aggregation", "ref": "OWN", "title": "t", "class": "ORIGIN"})[1][0]
+    early = filing(51, file["number"]) | {"originated": "2001-01-01"}
+    record = world.act("carl", early)[1][0]["number"]
+    same("berta confirms what carl filed with an early day", world.act("berta", confirm(record))[0], 200)
+    eyes(world, "who filed it with an early day", "carl", rule, OPEN)
+    eyes(world, "opened, and filed so in one list", "berta", rule, OPEN, early | {"ref": "r52"})
+    same("anna opens", world.act("anna", OPEN)[0], 200)
+    eyes(world, "she files nothing with an early day", "anna", rule, early | {"ref": "r53"})
+    same("but with the day of the filing", world.act("anna", filing(54, file["number"]))[0], 200)
+    same("berta carries it out", resume(world, "berta"), 200)
+
+
+def opened_run(world: World, moment: float, number: int, by: str) -> None:
+    """Puts a catalogue in place in which this run is open."""
+    write_catalogue(world, moment, [], [{"number": number, "by": by, "closed": False}])
+
+
+def again(world: World) -> None:
+    """What the journal has of a closing counts more than a catalogue from before; a newer one tells of what it lacks."""
+    record = world.act("registry", filing(60, 1))[1][0]["number"]
+    number = world.act("anna", OPEN)[1][0]["number"]
+    opened_run(world, time.time(), number, "Anna A.")
+    eyes(world, "while it is open", "anna", "confirmer-does-not-open", confirm(record))
+    same("berta carries it out", resume(world, "berta"), 200)
+    same("anna decides again at once", world.act("anna", confirm(record))[0], 200)
+    world.stop_gate()
+    for it in world.state.glob("facts.db*"):
+        it.unlink()
+    world.start_gate()
+    same("and after a start", world.act("anna", confirm(record))[0], 200)
+    # a run that somebody opened past the gate, since then
+    number = past(world, {"act": "open-run", "by": "Anna A."})
+    # a catalogue has whole seconds
+    time.sleep(1.1)
+    opened_run(world, time.time(), number, "Anna A.")
+    same("the catalogue has who opened it", resume(world, "anna"), 403)
+    same("another one carries it out", resume(world, "carl"), 200)
+    same("then nobody opened it", resume(world, "anna"), 409)
 
 
 def making(world: World) -> None:

@@ -8,8 +8,7 @@ from gate_trial.judging import judge, same
 from gate_trial.world import World, today
 
 MANAGER = {"add-schedule", "add-class", "set-class-schedule", "set-record-schedule", "reclassify", "add-aggregation",
-           "add-record", "close-aggregation", "event", "confirm", "review", "open-run", "run-step", "resume", "receipt",
-           "vault"}
+           "add-record", "close-aggregation", "event", "confirm", "review", "open-run", "run-step", "resume", "vault"}
 MAY: dict[str, set[str]] = {
     "registry": {"add-aggregation", "add-record", "close-aggregation", "event", "vault"},
     "records-manager": MANAGER,

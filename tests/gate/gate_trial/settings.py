@@ -22,7 +22,20 @@ WRONG = ["role a may confrim", "role a may", "role A may confirm", "role a reads
          "zone UTC",
          "site https://localhost", "site localhost", "site https://localhost/city/", "grant x y",
          "name * signs everybody",
-         "zone ../../etc/passwd", "name registry signs \x1b[1m", "role a may confirm in *x"]
+         "zone ../../etc/passwd", "name registry signs \x1b[1m", "role a may confirm in *x",
+         "rule sender-does-not-receive 3", "rule receiver-does-not-open all",
+         "name registry signs R. Hall\u043eran", "name registry signs \u0410. Halloran", "name registry signs \u039dina"]
+# whose `by` could be taken for somebody else's
+ALIKE = [("name legal signs registry", "registry"), ("name legal signs Registry", "registry"),
+         ("name registry signs R. H.\nname legal signs r. h.", "registry"),
+         ("name registry signs R. H.\nname legal signs \uff32. H.", "registry"),
+         ("name registry signs Stra\u00dfe\nname legal signs STRASSE", "registry"),
+         ("name REGISTRY is auditor", "registry"), ("name legal signs department\nname department signs D. P.", "department")]
+# a site without TLS is for this machine alone
+SITES = {"http://localhost": 0, "http://localhost:8080": 0, "http://127.0.0.1:8080": 0, "http://[::1]:80": 0,
+         "https://records.city.example": 0, "https://[2001:db8::1]:443": 0, "http://records.city.example": 2,
+         "http://192.0.2.1": 2, "http://localhost.city.example": 2, "http://127.0.0.1.city.example": 2,
+         "http://[2001:db8::1]": 2}
 MISSING = [("zone UTC\n", "site"), ("site https://localhost\n", "zone")]
 
 
@@ -41,7 +54,8 @@ def tried(folder: pathlib.Path) -> None:
     status, said = checked(place, "zone UTC\nsite https://localhost\nname x signs somebody\n")
     judge("who signs has a role", status == 2 and "'x'" in said, said)
     status, said = checked(place, f"zone UTC\nsite https://localhost\n{SETTINGS}name legal signs registry\n")
-    judge("two names sign two texts", status == 2 and "both sign 'registry'" in said, said)
+    judge("two names sign two texts", status == 2 and "'registry' of 'legal'" in said, said)
+    alike(place)
     place.write_bytes(b"zone UTC\nsite https://localhost\n# \xff\n")
     judge("no UTF-8", f"{place}:3: " in run("check", str(place))[1])
     judge("a file that is not there", run("check", str(folder / "none"))[0] == 2)
@@ -49,6 +63,19 @@ def tried(folder: pathlib.Path) -> None:
     printed(world)
     changed(world)
     world.end()
+
+
+def alike(place: pathlib.Path) -> None:
+    """Names and texts that people take for each other are refused; so is a site that others could listen to."""
+    head = "zone UTC\nsite https://localhost\n" + SETTINGS
+    for line, other in ALIKE:
+        status, said = checked(place, f"{head}{line}\n")
+        judge(f"{line!r} looks like {other}", status == 2 and "look alike" in said and f"'{other}'" in said, said)
+    for text in ("R. Halloran, \u00e4lteste", "\u0410\u043d\u043d\u0430", "\u5c71\u7530\u3055\u3093", "\u0391\u03b8\u03b7\u03bd\u03ac 2"):
+        same(f"{text!r} is of one script", checked(place, f"{head}name registry signs {text}\n")[0], 0)
+    for site, wanted in SITES.items():
+        status, said = checked(place, f"zone UTC\nsite {site}\n")
+        judge(f"site {site}: {wanted}", status == wanted and (wanted == 0 or f"{place}:2: " in said), (status, said))
 
 
 def run(*words: str) -> tuple[int, str]:
@@ -102,5 +129,7 @@ def changed(world: World) -> None:
     same("the journal has the SHA-256 of each", len(set(sums)), 2)
     same("a name that no line names", json.loads(world.ask("somebody", "GET", "/rights")[1])["acts"], False)
     world.reload(SETTINGS + "name * is auditor\nname legal signs L. Egal\nname registry signs else\n")
+    same("a name that looks like one of the settings", [world.ask(it, "GET", "/records/1")[0] for it in ("Legal", "ELSE")],
+         [403, 403])
     same("a line for all other names", world.ask("somebody", "GET", "/records/1")[0], 200)
     same("but for one that another name signs", world.ask("else", "GET", "/records/1")[0], 403)
