@@ -2,6 +2,7 @@
 
 All of it is derived. The file is made anew from the journal if it is lost, or was made from another one.
 """
+import datetime
 import re
 import sqlite3
 import time
@@ -22,12 +23,15 @@ CREATE INDEX IF NOT EXISTS of_name ON touches(name, at);
 CREATE TABLE IF NOT EXISTS aggregations (line INTEGER, place INTEGER, at REAL, kind TEXT, number INTEGER,
     parent INTEGER, class TEXT, PRIMARY KEY (line, place));
 CREATE TABLE IF NOT EXISTS runs (line INTEGER, place INTEGER, name TEXT, number INTEGER, PRIMARY KEY (line, place));
+CREATE TABLE IF NOT EXISTS days (one INTEGER PRIMARY KEY CHECK (one = 1), day TEXT);
 """
 MARGIN = 120.0
 """so many seconds before its moment the journal is read on from a catalogue: what is done twice makes no difference"""
 AGGREGATION = re.compile("aggregation:([1-9][0-9]{0,9})")
 NONE_OPEN = "18"
 """the refusal that says that no run is open"""
+DAY_BACK = "1"
+"""the refusal of a day before that of the office"""
 
 
 def is_none_open(answer: object) -> bool:
@@ -94,7 +98,7 @@ class Facts:
         return Head(*found) if found else None
 
     def forget(self) -> None:
-        for table in ("folded", "touches", "aggregations", "runs"):
+        for table in ("folded", "touches", "aggregations", "runs", "days"):
             self.db.execute(f"DELETE FROM {table}")
 
     def begin(self) -> None:
@@ -121,6 +125,8 @@ class Facts:
             answer = answer_at(answers, place)
             if answer is None and answered.get("known", True):
                 continue
+            if answer is not None:
+                self.note_day(act.get("day"), answer)
             if is_none_open(answer):
                 self.closed()
             elif answer is None or "refused" not in answer:
@@ -150,6 +156,24 @@ class Facts:
         line, place, at = where
         self.db.execute("INSERT OR REPLACE INTO aggregations VALUES (?, ?, ?, ?, ?, ?, ?)",
                         (line, place, at, kind, number, number_in(act, "parent"), text(act.get("class"))))
+
+    def note_day(self, text: object, answer: Json) -> None:
+        """Notes the office's day as an answer shows it: that of an act that was done, or a later one than it refused."""
+        try:
+            day = datetime.date.fromisoformat(str(text))
+            if str(answer.get("refused")) == DAY_BACK:
+                day = max(day + datetime.timedelta(1), datetime.date.fromisoformat(self.office_day() or str(day)))
+            elif "refused" in answer:
+                return
+        except (ValueError, OverflowError):
+            return
+        if day.isoformat() != self.office_day():
+            self.db.execute("INSERT OR REPLACE INTO days VALUES (1, ?)", (day.isoformat(),))
+
+    def office_day(self) -> str:
+        """Returns the office's day as far as the journal shows it: the latest day of an act; nothing if it shows none."""
+        row = self.db.execute("SELECT day FROM days").fetchone()
+        return str(row[0]) if row else ""
 
     def closed(self) -> None:
         self.db.execute("DELETE FROM runs")

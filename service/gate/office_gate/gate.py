@@ -14,6 +14,7 @@ from office_gate.body import Json
 from office_gate.catalogue import Aggregations, Catalogue
 from office_gate.catching import catch_up
 from office_gate.chain import Head, digest
+from office_gate.clock import Clock
 from office_gate.contents import noted
 from office_gate.deciding import Asked
 from office_gate.errors import Answered, Refused, say
@@ -59,6 +60,7 @@ class Gate:
     facts: Facts
     catalogue: Catalogue
     office: Office
+    clock: Clock
     metrics: Metrics = field(default_factory=Metrics)
     requests: AtOnce = field(default_factory=AtOnce)
     lists: AtOnce = field(default_factory=AtOnce)
@@ -86,7 +88,7 @@ class Gate:
         with contextlib.suppress(Answered):
             await self.tell()
         with contextlib.suppress(Answered):
-            await self.journal.in_thread(self.journal.reopen)
+            await self.journal.turn()
 
     async def tell(self) -> None:
         """Writes which settings count, if the journal does not say so. Nothing is decided by others."""
@@ -118,6 +120,7 @@ class Gate:
             entry["acts"] = plain
             deciding.kinds(asked.person, acts)
             deciding.sign(asked.person, acts)
+            await self.clock.need(self.journal)
             if earlier := deciding.days(self.access, asked.person, acts):
                 entry["earlier"] = earlier
             for place, act in enumerate(acts):
@@ -155,6 +158,7 @@ class Gate:
         entry = self.head(asked, "POST /run/resume")
         async with self.refusing(entry):
             deciding.resume(self.access, asked)
+            await self.clock.need(self.journal)
             async with self.acting.turn(asked.person.name, asked.ends):
                 await self.recover()
                 Eyes(self.access, self.facts, self.aggregations(), self.office).carry_out(asked.person)
