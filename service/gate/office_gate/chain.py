@@ -1,7 +1,6 @@
-"""The lines of a journal, each with the SHA-256 of the one before: how they are written, read and checked."""
+"""The lines of a journal, each with the SHA-256 of the one before: how they are written and read."""
 import hashlib
 import os
-import re
 from collections.abc import Iterator
 from dataclasses import dataclass
 from pathlib import Path
@@ -12,7 +11,6 @@ from office_gate.errors import Refused
 NONE = "0" * 64
 """what the first line of all has in the place of the one before"""
 BLOCK = 1 << 16
-HEAD = re.compile(r"\b(\d{1,15}):([0-9a-f]{64})\b")
 NO_LINE = 10**15
 """the first number of a file in which no line is yet: it comes after all others"""
 
@@ -135,41 +133,6 @@ def end_of(files: list[Path], goes_on: Path) -> tuple[Head, bytes | None]:
     return head, b"\n".join(after) if after else None
 
 
-@dataclass
-class Checked:
-    """What a check of a journal found."""
-
-    first: int = 0
-    head: Head = START
-    lines: int = 0
-    rest: bytes | None = None
-
-
-def check(files: list[Path], known: dict[int, str] | None = None) -> Checked:
-    """Follows the chain through all lines. Refused names the line at which it breaks, and how.
-
-    `known` are heads that were written down elsewhere, by their numbers: by these a chain that somebody
-    wrote anew, or cut at its end, is found too.
-    """
-    found, known = Checked(), dict(known or {})
-    for path in files:
-        for line in lines_of(path):
-            entry = entry_of(line)
-            if entry is None:
-                found.rest = line.data if found.rest is None else found.rest + b"\n" + line.data
-                continue
-            compare(line, entry, found)
-            found.rest, found.head, found.lines = None, line.head(), found.lines + 1
-            if known.pop(found.head.line, found.head.sha256) != found.head.sha256:
-                raise Refused(1, f"{line.where()}: line {found.head.line} is another than the one whose SHA-256 was "
-                                 "written down: somebody wrote the journal anew from there on, or from before")
-    early = [it for it in known if it < found.first]
-    if len(known) > len(early):
-        raise Refused(1, f"line {min(known.keys() - set(early))} was written down and is not there: the journal ends "
-                         f"with line {found.head.line}, so its end was cut")
-    return found
-
-
 def entry_of(line: Line) -> Json | None:
     """Reads a line, or returns None if a stop in the middle of a writing left it."""
     try:
@@ -178,38 +141,14 @@ def entry_of(line: Line) -> Json | None:
         return None
 
 
-def compare(line: Line, entry: Json, found: Checked) -> None:
-    """Compares a line with the one before it, and with what a stop left between the two."""
-    number, before = int(entry["line"]), found.head
-    if found.lines == 0:
-        found.first = number
-        if number == 1 and entry["before"] != NONE:
-            raise Refused(1, f"{line.where()}: this is line 1, but names a line before it")
-        if found.rest is not None:
-            between(line, entry, found)
-        return
-    if number > before.line + 1:
-        raise Refused(1, f"{line.where()}: after line {before.line} comes line {number}: lines were cut out")
-    if number <= before.line:
-        raise Refused(1, f"{line.where()}: after line {before.line} comes line {number}: a line was added or moved")
-    if entry["before"] != before.sha256:
-        raise Refused(1, f"{line.where()}: line {before.line} was changed: its SHA-256 is not the one that line "
-                         f"{number} names")
-    between(line, entry, found)
-
-
-def between(line: Line, entry: Json, found: Checked) -> None:
-    """Compares what lies before a line with what the line says of it."""
-    wanted = None if found.rest is None else text_of(torn(found.rest))
-    said = text_of(entry["torn"]) if "torn" in entry else None
-    if said != wanted:
-        raise Refused(1, f"{line.where()}: between line {found.head.line} and line {entry['line']} are other bytes "
-                         "than this line names: they were added, changed or cut")
-
-
-def told(text: str) -> dict[int, str]:
-    """Reads heads that were written down: each LINE:SHA256 of a text."""
-    return {int(number): sha256 for number, sha256 in HEAD.findall(text)}
+def last_entry(files: list[Path]) -> Json | None:
+    """Returns the last line of a journal, or None if there is none."""
+    for path in reversed(files):
+        for pieces in tails(path):
+            for data in reversed(pieces):
+                if entry := entry_of(Line(path, 0, data, True)):
+                    return entry
+    return None
 
 
 def entries(files: list[Path]) -> Iterator[Json]:

@@ -4,7 +4,7 @@ import os
 import sys
 from pathlib import Path
 
-from office_gate import alone, settings
+from office_gate import alone, clock, settings
 from office_gate.errors import Refused
 from office_gate.words import MAY, READS
 
@@ -41,6 +41,12 @@ def rights(it: argparse.Namespace) -> int:
     return 0
 
 
+def clock_is_right(it: argparse.Namespace) -> int:
+    """let the gate of a folder go by the clock of this machine as it is now"""
+    print(f"the clock shows {clock.say_right(it.state)}: the gate of {it.state} goes by it from now on")
+    return 0
+
+
 def words() -> argparse.ArgumentParser:
     parser = argparse.ArgumentParser("office-gate", allow_abbrev=False)
     kinds = parser.add_subparsers(required=True, metavar="COMMAND")
@@ -58,6 +64,9 @@ def words() -> argparse.ArgumentParser:
     one.set_defaults(what=rights)
     one.add_argument("settings", type=Path)
     one.add_argument("name")
+    one = kinds.add_parser(clock.WORD, help=clock_is_right.__doc__, allow_abbrev=False)
+    one.set_defaults(what=clock_is_right)
+    one.add_argument("state", type=Path, metavar="FOLDER")
     return parser
 
 

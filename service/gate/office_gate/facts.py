@@ -2,6 +2,7 @@
 
 All of it is derived. The file is made anew from the journal if it is lost, or was made from another one.
 """
+import datetime
 import re
 import sqlite3
 import time
@@ -24,6 +25,7 @@ CREATE TABLE IF NOT EXISTS aggregations (line INTEGER, place INTEGER, at REAL, k
 CREATE TABLE IF NOT EXISTS runs (line INTEGER, place INTEGER, name TEXT, number INTEGER, PRIMARY KEY (line, place));
 CREATE TABLE IF NOT EXISTS parts (line INTEGER, place INTEGER, name TEXT, run INTEGER, PRIMARY KEY (line, place));
 CREATE TABLE IF NOT EXISTS closed (one INTEGER PRIMARY KEY CHECK (one = 1), line INTEGER, at REAL);
+CREATE TABLE IF NOT EXISTS days (one INTEGER PRIMARY KEY CHECK (one = 1), day TEXT);
 """
 VERSION = 2
 """of these tables, and of what is noted in them; what another gate noted is made anew from the journal"""
@@ -32,6 +34,8 @@ MARGIN = 120.0
 AGGREGATION = re.compile("aggregation:([1-9][0-9]{0,9})")
 NONE_OPEN = "18"
 """the refusal that says that no run is open"""
+DAY_BACK = "1"
+"""the refusal of a day before that of the office"""
 
 
 def is_none_open(answer: object) -> bool:
@@ -117,7 +121,7 @@ class Facts:
         return Head(*found) if found else None
 
     def forget(self) -> None:
-        for table in ("folded", "touches", "aggregations", "runs", "parts", "closed"):
+        for table in ("folded", "touches", "aggregations", "runs", "parts", "closed", "days"):
             self.db.execute(f"DELETE FROM {table}")
 
     def begin(self) -> None:
@@ -146,6 +150,8 @@ class Facts:
             answer = answer_at(answers, place)
             if answer is None and answered.get("known", True):
                 continue
+            if answer is not None:
+                self.note_day(act.get("day"), answer)
             if act["act"] == "run-step":
                 self.stepped(answer, name, (line, place, at), answer is not None)
             elif answer is None or "refused" not in answer:
@@ -184,6 +190,24 @@ class Facts:
         line, place, at = where
         self.db.execute("INSERT OR REPLACE INTO aggregations VALUES (?, ?, ?, ?, ?, ?, ?)",
                         (line, place, at, kind, number, number_in(act, "parent"), text(act.get("class"))))
+
+    def note_day(self, text: object, answer: Json) -> None:
+        """Notes the office's day as an answer shows it: that of an act that was done, or a later one than it refused."""
+        try:
+            day = datetime.date.fromisoformat(str(text))
+            if str(answer.get("refused")) == DAY_BACK:
+                day = max(day + datetime.timedelta(1), datetime.date.fromisoformat(self.office_day() or str(day)))
+            elif "refused" in answer:
+                return
+        except (ValueError, OverflowError):
+            return
+        if day.isoformat() != self.office_day():
+            self.db.execute("INSERT OR REPLACE INTO days VALUES (1, ?)", (day.isoformat(),))
+
+    def office_day(self) -> str:
+        """Returns the office's day as far as the journal shows it: the latest day of an act; nothing if it shows none."""
+        row = self.db.execute("SELECT day FROM days").fetchone()
+        return str(row[0]) if row else ""
 
     def took_part(self, where: tuple[int, int, float], name: str, run: int | None) -> None:
         """Notes who opened a run, or carried out a part of it. Without a number it is the run that is closed next."""

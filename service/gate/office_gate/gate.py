@@ -17,6 +17,7 @@ from office_gate.budget import Budget
 from office_gate.catalogue import Aggregations, Catalogue
 from office_gate.catching import catch_up
 from office_gate.chain import Head, digest
+from office_gate.clock import Clock
 from office_gate.deciding import Asked
 from office_gate.errors import Answered, Refused, say
 from office_gate.eyes import Eyes
@@ -81,6 +82,7 @@ class Gate:
     office: Office
     index: ActsIndex
     own: OwnCatalogues
+    clock: Clock
     metrics: Metrics = field(default_factory=Metrics)
     requests: AtOnce = field(default_factory=AtOnce)
     lists: AtOnce = field(default_factory=AtOnce)
@@ -110,7 +112,7 @@ class Gate:
         with contextlib.suppress(Answered):
             await self.tell()
         with contextlib.suppress(Answered):
-            await self.journal.in_thread(self.journal.reopen)
+            await self.journal.turn()
 
     async def tell(self) -> None:
         """Writes which settings count, if the journal does not say so. Nothing is decided by others."""
@@ -211,6 +213,7 @@ class Gate:
         person = asked.person
         await deciding.kinds(person, acts)
         await deciding.sign(person, acts)
+        await self.clock.need(self.journal)
         earlier = await deciding.days(access, person, acts)
         await deciding.reasons(access, asked, acts)
         await self.recover()
@@ -228,6 +231,7 @@ class Gate:
         entry = self.head(asked, "POST /run/resume")
         async with self.refusing(entry):
             deciding.resume(self.access, asked)
+            await self.clock.need(self.journal)
             async with self.acting.turn(asked.person.name, asked.ends):
                 await self.recover()
                 while True:

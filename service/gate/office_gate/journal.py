@@ -17,9 +17,6 @@ from office_gate.chain import Head
 from office_gate.contents import Contents
 from office_gate.errors import Answered, Refused, say
 
-TOLD_EACH = 1000
-"""after so many lines the head is printed, for the journal of systemd"""
-
 Waiting = tuple[bytes, Head, bool, asyncio.Future[None]]
 """a line and its head, whether it has to be on the disk, and who waits for that"""
 
@@ -39,12 +36,18 @@ class Journal:
         self.lead = b""
         # bytes that are no line, of which the next one tells
         self.rest: bytes | None = None
+        # the file before this one, which the first line of this one names
+        self.before: dict[str, object] | None = None
+        # up to which line a head was printed
+        self.printed = 0
         self.is_well = True
         # whether the end of the file is known, which the next line follows
         self.is_found = False
         self.file = -1
         self.waiting: list[Waiting] = []
         self.worker: asyncio.Task[None] | None = None
+        # set while lines wait until the journal goes on in another file
+        self.turning: asyncio.Event | None = None
         self.thread = concurrent.futures.ThreadPoolExecutor(1, "journal")
         # held by whoever uses the file
         self.using = threading.Lock()
@@ -71,7 +74,31 @@ class Journal:
         self.head = self.written = max(head, self.written, key=lambda it: it.line)
         is_cut = here.st_size and os.pread(self.file, 1, here.st_size - 1) != b"\n"
         self.lead = b"\n" if is_cut else b""
+        self.before = self.file_before(goes_on)
         self.is_found = True
+
+    def file_before(self, path: Path) -> dict[str, object] | None:
+        """Names the newest of the other files that have lines, and its size, if this one has no line yet."""
+        if path.exists() and chain.first_number(path) != chain.NO_LINE:
+            return None
+        others = [it for it in chain.files_of(self.path) if it != path]
+        return {"file": others[-1].name, "bytes": others[-1].stat().st_size} if others else None
+
+    async def turn(self) -> None:
+        """Goes on in the file that now has the name, and prints the head. Lines that come meanwhile wait for that."""
+        while self.turning:
+            await self.turning.wait()
+        self.turning = turning = asyncio.Event()
+        try:
+            while self.worker:
+                await asyncio.wait([self.worker])
+            await self.in_thread(self.reopen)
+        finally:
+            self.turning = None
+            turning.set()
+        if self.before:
+            say(f"{self.path} follows {self.before['file']} of {self.before['bytes']} bytes")
+        await self.print_head(is_asked=True)
 
     def reopen(self) -> None:
         """Goes on in the file that now has the name, as after a rotation."""
@@ -90,6 +117,7 @@ class Journal:
         self.lead = b""
         os.close(self.file)
         self.file = new
+        self.before = self.file_before(self.path)
 
     def close(self) -> None:
         self.thread.shutdown()
@@ -102,13 +130,18 @@ class Journal:
 
         Answered 503 `journal` says that the disk did not take it: then nothing may be done.
         """
+        while self.turning:
+            await self.turning.wait()
         entry = {"at": now(), **entry}
         if not self.is_found:
             self.find()
         if self.rest is not None:
             entry["torn"] = chain.torn(self.rest)
+        if self.before is not None:
+            entry["after"] = self.before
         data, head = chain.linked(entry, self.head)
         self.rest, self.head = None, head
+        self.before = None
         if not is_durable and self.worker is None and self.using.acquire(blocking=False):
             # nothing waits for the disk, and the system takes a line at once: this needs no thread
             self.put(data, head)
@@ -147,9 +180,18 @@ class Journal:
     def took(self, head: Head) -> None:
         """Notes up to which line all is written."""
         self.is_well = True
-        if head.line // TOLD_EACH > self.written.line // TOLD_EACH:
-            say(f"head {head}")
         self.written = head
+
+    async def print_head(self, is_asked: bool = False) -> None:
+        """Prints the last line for the journal of systemd, if it is a new one or somebody asked. It is on the disk then."""
+        head = self.written
+        if head.line > self.printed or is_asked:
+            await self.in_thread(self.sync)
+            self.printed = head.line
+            say(f"head {head}")
+
+    def sync(self) -> None:
+        os.fdatasync(self.file)
 
     async def work(self) -> None:
         """Writes what waits, all of it at once, until nothing does."""

@@ -118,10 +118,14 @@ class Reading:
     # ---- the gate's own
 
     async def alive(self) -> Answer:
-        """Says whether the office has a record and the journal takes lines, and nothing of either."""
+        """Says whether the office has a record and can act today, and the journal takes lines, and nothing of either."""
         need(self.person, "health")
         if not self.gate.journal.is_well:
             raise Answered(503, "journal")
+        if not self.gate.clock.is_believed():
+            raise Answered(503, "clock")
+        if self.gate.facts.office_day() > deciding.today(self.gate.access):
+            raise Answered(503, "day")
         answer = await self.office("/records/1")
         if answer.status == 200:
             return given({"records": True})

@@ -3,6 +3,8 @@
 How much was done of a request without a whole answer nobody knows: an end of the gate or of the office cut it off. The
 replay tries what is likeliest, and goes back if an answer after it, or a row in the end, is another then.
 """
+import os
+import shutil
 import tempfile
 from collections import deque
 from dataclasses import dataclass, field
@@ -271,12 +273,34 @@ def spans_of(request: Request, moment: float) -> list[Span]:
     return spans
 
 
-def replay(requests: list[Request], moment: float, until: float, kept: Kept, copied: Path, new: Path) -> Replay:
-    """Makes NEW of a copy and the acts after it. The caller removes the folder of the replay."""
+def replay(requests: list[Request], times: tuple[float, float], kept: Kept, files: tuple[Path, Path]) -> Replay:
+    """Plays the acts from one time to another on a copy, for a new file. The caller removes the folder of the replay."""
+    (moment, until), (copied, new) = times, files
     if new.exists():
         raise Refused(2, f"{new} is there already")
-    copy(copied, new)
     ways = [(it, spans_of(it, moment)) for it in requests if it.acted() and it.asked_at <= until]
     ways = [(it, spans) for it, spans in ways if spans]
     folder = Path(tempfile.mkdtemp(prefix=".office-journal-", dir=new.parent))
-    return Replay([it for it, _ in ways], [spans for _, spans in ways], kept, Player(new), folder)
+    try:
+        copy(copied, folder / "replay.db")
+    except OSError:
+        shutil.rmtree(folder, ignore_errors=True)
+        raise
+    return Replay([it for it, _ in ways], [spans for _, spans in ways], kept, Player(folder / "replay.db"), folder)
+
+
+def named(made: Path, new: Path) -> None:
+    """Gives a file its name once it is whole and on the disk: after a replay that fails there is no such file."""
+    synced(made)
+    if new.exists():
+        raise Refused(2, f"{new} is there already")
+    made.rename(new)
+    synced(new.parent)
+
+
+def synced(place: Path) -> None:
+    file = os.open(place, os.O_RDONLY)
+    try:
+        os.fsync(file)
+    finally:
+        os.close(file)

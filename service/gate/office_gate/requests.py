@@ -91,14 +91,21 @@ def settled(requests: list[Request]) -> list[Request]:
     return requests
 
 
+def cut_at(requests: list[Request], moment: float) -> None:
+    """Takes what was under way at a moment as a request without an answer: a copy of then has it, or not, or half."""
+    for it in requests:
+        if it.asked_at <= moment < it.answered_at:
+            it.is_known, it.answers, it.answered_at = False, [], float("inf")
+
+
 # ---- contents, which the journal has not
 
 class Kept:
-    """The contents that the gate keeps, and those of an office's file."""
+    """The contents that the gate keeps, and those of files of an office."""
 
-    def __init__(self, contents: Contents, beside: Path | None) -> None:
+    def __init__(self, contents: Contents, files: list[Path]) -> None:
         self.contents = contents
-        self.beside = sqlite3.connect(f"file:{beside}?immutable=1", uri=True) if beside else None
+        self.files = [sqlite3.connect(f"file:{it}?immutable=1", uri=True) for it in files]
 
     def of(self, request: Request) -> list[Json]:
         """Returns the acts of a request with their contents."""
@@ -117,10 +124,10 @@ class Kept:
     def one(self, request: Request, at: int, length: int, sha256: str) -> bytes:
         day = str((request.contents or {}).get("day"))
         data = self.contents.read(day, at, length, sha256)
-        if data is None and self.beside:
+        for file in self.files if data is None else []:
             query = "SELECT bytes FROM contents JOIN records ON num = record WHERE digest = ? LIMIT 1"
-            row = self.beside.execute(query, (sha256,)).fetchone()
-            data = row[0] if row else None
+            for (content,) in file.execute(query, (sha256,)):
+                data = content
         if data is None:
             raise Refused(1, f"line {request.line}: a content of {length} bytes, SHA-256 {sha256}, is no longer there")
         return data

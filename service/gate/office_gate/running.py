@@ -1,5 +1,6 @@
 """The gate as a service: the socket that systemd keeps, readiness, a watchdog, a reload, an end that loses nothing."""
 import asyncio
+import contextlib
 import os
 import signal
 import socket
@@ -10,7 +11,7 @@ from pathlib import Path
 from office_serve.listening import FIRST, tell
 
 from office_gate import starting
-from office_gate.errors import Refused, say
+from office_gate.errors import Answered, Refused, say
 from office_gate.gate import Gate
 from office_gate.serving import Front
 from office_gate.starting import Places
@@ -19,7 +20,7 @@ BACKLOG = 4096
 STOP_SECONDS = 300
 TURNS = 20
 PRUNE_SECONDS = 3600
-FOLLOW_SECONDS = 60
+MINUTE = 60
 
 
 def listener(place: Path | None) -> socket.socket:
@@ -50,7 +51,9 @@ async def prune(gate: Gate) -> None:
     while True:
         await asyncio.sleep(PRUNE_SECONDS)
         try:
-            await asyncio.to_thread(gate.journal.contents.prune, gate.access.content_days)
+            # a clock that runs ahead would remove what has to stay
+            if gate.clock.is_believed():
+                await asyncio.to_thread(gate.journal.contents.prune, gate.access.content_days)
         except OSError as error:
             say(f"contents are not removed, and it is tried again in an hour: {error}")
 
@@ -62,7 +65,19 @@ async def follow(gate: Gate) -> None:
             await asyncio.to_thread(gate.index.catch_up)
         except (OSError, sqlite3.Error) as error:
             say(f"the histories are behind, and it is tried again: {error}")
-        await asyncio.sleep(FOLLOW_SECONDS)
+        await asyncio.sleep(MINUTE)
+
+
+async def each_minute(gate: Gate) -> None:
+    """Looks at the clock, and prints the head of the journal if a line came, so that nobody writes these lines anew."""
+    while True:
+        await asyncio.sleep(MINUTE)
+        gate.clock.is_believed()
+        gate.clock.keep(is_asked=gate.journal.written.line > gate.journal.printed)
+        # a full disk takes neither; the next minute tries again
+        with contextlib.suppress(Answered):
+            await gate.clock.note(gate.journal)
+            await gate.journal.print_head()
 
 
 async def serve(gate: Gate, at: socket.socket) -> None:
@@ -73,13 +88,13 @@ async def serve(gate: Gate, at: socket.socket) -> None:
     server = await loop.create_unix_server(front, sock=at, backlog=BACKLOG)
     for number in (signal.SIGTERM, signal.SIGINT):
         loop.add_signal_handler(number, stop.set)
-    tasks = [asyncio.ensure_future(it(gate)) for it in (watch, prune, follow)]
+    tasks = [asyncio.ensure_future(it(gate)) for it in (watch, prune, follow, each_minute)]
 
     def reload() -> None:
         tasks.append(asyncio.ensure_future(gate.reload()))
     loop.add_signal_handler(signal.SIGHUP, reload)
     tell("READY=1")
-    say(f"head {gate.journal.head}")
+    await gate.journal.print_head(is_asked=True)
     print("listening", flush=True)
     await stop.wait()
     tell("STOPPING=1")
@@ -90,7 +105,8 @@ async def serve(gate: Gate, at: socket.socket) -> None:
         it.cancel()
     await front.shutdown(1)
     await gate.journal.append({"what": "closed"})
-    say(f"head {gate.journal.head}")
+    await gate.journal.print_head(is_asked=True)
+    gate.clock.keep(is_asked=True)
     gate.journal.close()
 
 

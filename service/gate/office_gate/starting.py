@@ -3,10 +3,12 @@ import asyncio
 from dataclasses import dataclass
 from pathlib import Path
 
-from office_gate import alone, settings
+from office_gate import alone, chain, settings
 from office_gate.acts_index import ActsIndex
 from office_gate.catalogue import Catalogue
 from office_gate.catching import catch_up, unanswered
+from office_gate.checking import moment_of
+from office_gate.clock import Clock
 from office_gate.contents import Contents
 from office_gate.errors import Refused, say
 from office_gate.facts import Facts
@@ -47,8 +49,10 @@ def opened(places: Places, address: str) -> Gate:
     token = token_of(places.token)
     journal = Journal(places.journal, Contents(places.state / "contents").make())
     journal.open()
+    last = chain.last_entry(chain.files_of(places.journal))
     return Gate(access, token, journal, Facts(places.state / "facts.db"), Catalogue(places.catalogue), Office(address),
-                ActsIndex(places.state / "history.db", places.journal), OwnCatalogues(places.state / "catalogues"))
+                ActsIndex(places.state / "history.db", places.journal), OwnCatalogues(places.state / "catalogues"),
+                Clock(places.state, moment_of(last) if last else None))
 
 
 async def begin(gate: Gate) -> None:
@@ -61,4 +65,7 @@ async def begin(gate: Gate) -> None:
         await gate.journal.append({"what": "answered", "of": line, "status": 0, "known": False})
     catch_up(gate.journal.path, gate.facts, gate.journal.head)
     gate.facts.extend(gate.aggregations())
-    await asyncio.to_thread(gate.journal.contents.prune, gate.access.content_days)
+    if gate.clock.is_believed():
+        await asyncio.to_thread(gate.journal.contents.prune, gate.access.content_days)
+    await gate.clock.note(gate.journal)
+    gate.clock.keep(is_asked=True)

@@ -15,7 +15,7 @@ from gate_trial.world import JOURNAL, PYTHON, World
 
 sys.path.insert(0, str(JOURNAL.parent))
 
-from office_gate import chain  # noqa: E402
+from office_gate import chain, checking  # noqa: E402
 from office_gate.errors import Refused  # noqa: E402
 
 EACH = 20
@@ -44,7 +44,7 @@ def tried(folder: pathlib.Path) -> None:
 def quick(place: pathlib.Path, *heads: str) -> tuple[int, str]:
     """Checks as the command does, without starting it."""
     try:
-        found = chain.check(chain.files_of(place), chain.told(" ".join(heads)))
+        found = checking.check(chain.files_of(place), checking.heads_in(" ".join(heads)))
     except Refused as refused:
         return refused.status, str(refused)
     return 0, f"head {found.head}"
@@ -146,7 +146,10 @@ def rotated(world: World) -> None:
     middle.write_bytes(data)
     oldest = world.folder / "journal-20260101"
     oldest.rename(world.folder / "put-away")
-    same("without the oldest one the others hold", check(world.journal)[0], 0)
+    status, said = check(world.journal)
+    judge("the oldest one missing is found", status == 1 and "are not here" in said, said)
+    last = f"{whole_in(world.folder / 'put-away')[-1]['line']}:{whole_in(middle)[0]['before']}"
+    same("the others hold after its head", check(world.journal, "--from", last)[0], 0)
     (world.folder / "put-away").rename(oldest)
     begun(world)
 

@@ -204,7 +204,7 @@ def rotated(it: Machine) -> None:
     judge("each hold that was placed is in it", placed and all(f'"code":"{code}"' in lines for code in placed), len(placed))
     said = it.done(f"journalctl -u {GATE} --grep head > heads; office-journal check {JOURNAL} --heads heads",
                    "with the heads of systemd's journal")
-    judge("heads were compared", int(said.rsplit(" ", 1)[1]) > 5, said)
+    judge("heads were compared", int(said.split("heads compared: ")[1].split(",")[0]) > 5, said)
     said = it.run(f"cp {JOURNAL}-20260101 /root/kept; chattr -a {JOURNAL}-20260101; sed -i '3s/\"at\":\"2/\"at\":\"3/' "
                   f"{JOURNAL}-20260101; office-journal check {JOURNAL}")
     same("a line that root changed is found", said[0], 1)
