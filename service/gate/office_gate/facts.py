@@ -11,6 +11,7 @@ from office_gate.body import Json, number_in
 from office_gate.catalogue import Aggregations
 from office_gate.chain import Head
 from office_gate.errors import Refused, say
+from office_gate.possession import Files
 from office_gate.scopes import text
 from office_gate.words import GIVES, OF_RECORD
 
@@ -80,6 +81,10 @@ class Facts:
         except sqlite3.DatabaseError as error:
             say(f"{path} is made anew: {error}")
             self.db = self.made_anew(path)
+        self.files = Files(self.db)
+        if self.files.is_new:
+            # the journal has lines that an older gate did not take
+            self.forget()
 
     def made_anew(self, path: Path) -> sqlite3.Connection:
         for end in ("", "-wal", "-shm"):
@@ -96,6 +101,7 @@ class Facts:
     def forget(self) -> None:
         for table in ("folded", "touches", "aggregations", "runs"):
             self.db.execute(f"DELETE FROM {table}")
+        self.files.forget()
 
     def begin(self) -> None:
         self.db.execute("BEGIN")
@@ -117,6 +123,7 @@ class Facts:
             if str(answered.get("status")) == "200" or is_none_open(answered.get("answer")):
                 self.closed()
             return
+        self.files.fold(asked, answers)
         for place, act in enumerate(asked.get("acts") or []):
             answer = answer_at(answers, place)
             if answer is None and answered.get("known", True):

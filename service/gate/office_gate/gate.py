@@ -22,6 +22,7 @@ from office_gate.facts import Facts
 from office_gate.journal import Journal
 from office_gate.metrics import Metrics
 from office_gate.office import UNKNOWN, Answer, Office
+from office_gate.possession import Possession
 from office_gate.scopes import Asking, Scopes
 from office_gate.turns import AtOnce, Turns
 
@@ -126,6 +127,8 @@ class Gate:
             async with self.acting.turn(asked.person.name, asked.ends):
                 await self.judge(asked, acts)
                 entry["acts"] = deciding.signed(plain, acts)
+                if files := await self.possess(asked, acts):
+                    entry["files"] = files
                 if parts:
                     entry["contents"] = await self.journal.in_thread(self.journal.contents.add, parts)
                 answer, written = await self.send(asked, entry, "/acts", sent)
@@ -139,6 +142,16 @@ class Gate:
             async with asyncio.timeout_at(asked.ends):
                 await deciding.classes(asked.person, acts, Scopes(known, self.asking(asked)))
                 await Eyes(self.access, self.facts, known, self.office).acts(asked.person, acts)
+        except TimeoutError:
+            raise Answered(503, "office") from None
+
+    async def possess(self, asked: Asked, acts: list[Json]) -> list[Json]:
+        """Refuses contents that name a file of the vault which is not the name's. Returns what they name."""
+        if not asked.has_vault:
+            return []
+        try:
+            async with asyncio.timeout_at(asked.ends):
+                return await Possession(self.facts.files, asked.person, self.asking(asked)).judge(acts)
         except TimeoutError:
             raise Answered(503, "office") from None
 
@@ -245,6 +258,13 @@ class Gate:
         """Writes the line of a file that goes into the vault now, whose digest its path names."""
         self.metrics.note("put", 204, 0.0)
         await self.journal.append({"what": "put", **self.head(asked, request)})
+
+    async def stored(self, asked: Asked, digest: str, length: int) -> None:
+        """Writes the line of a file that is in the vault now: this name had its bytes."""
+        self.metrics.note("stored", 201, 0.0)
+        # a later line may be noted before this one is on the disk, and says that all lines before it are noted
+        self.facts.files.store(asked.person.name, digest, length, time.time())
+        await self.journal.append({"what": "stored", **self.head(asked, f"PUT /vault/{digest}"), "bytes": length})
 
     async def note(self, asked: Asked, request: str, status: int, length: int) -> None:
         """Writes the line of a reading."""
