@@ -70,4 +70,6 @@ def catch_up(journal: Path, facts: Facts, end: Head) -> None:
             asked[int(entry["line"])] = entry
         elif entry.get("what") == "answered" and (it := asked.pop(int(entry["of"]), None)):
             facts.fold(it, entry, int(entry["of"]), seconds(entry["at"]))
+        elif entry.get("what") == "stored":
+            facts.files.take(entry, seconds(entry["at"]))
     facts.commit(end)

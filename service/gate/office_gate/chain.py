@@ -5,7 +5,7 @@ from collections.abc import Iterator
 from dataclasses import dataclass
 from pathlib import Path
 
-from office_gate.body import Json, line_of, text_of, value_of
+from office_gate.body import Json, line_of, value_of
 from office_gate.errors import Refused
 
 NONE = "0" * 64

@@ -12,6 +12,7 @@ from office_gate.body import Json, number_in
 from office_gate.catalogue import Aggregations
 from office_gate.chain import Head
 from office_gate.errors import Refused, say
+from office_gate.possession import Files
 from office_gate.scopes import text
 from office_gate.words import GIVES, OF_RECORD
 
@@ -107,6 +108,10 @@ class Facts:
         except sqlite3.DatabaseError as error:
             say(f"{path} is made anew: {error}")
             self.db = self.made_anew(path)
+        self.files = Files(self.db)
+        if self.files.is_new:
+            # the journal has lines that an older gate did not take
+            self.forget()
 
     def made_anew(self, path: Path) -> sqlite3.Connection:
         for end in ("", "-wal", "-shm"):
@@ -123,6 +128,7 @@ class Facts:
     def forget(self) -> None:
         for table in ("folded", "touches", "aggregations", "runs", "parts", "closed", "days"):
             self.db.execute(f"DELETE FROM {table}")
+        self.files.forget()
 
     def begin(self) -> None:
         self.db.execute("BEGIN")
@@ -146,6 +152,7 @@ class Facts:
         if asked["request"] == "POST /run/resume":
             self.stepped(answered.get("answer"), name, (line, 0, at), bool(answered.get("known", True)))
             return
+        self.files.fold(asked, answers)
         for place, act in enumerate(asked.get("acts") or []):
             answer = answer_at(answers, place)
             if answer is None and answered.get("known", True):

@@ -26,6 +26,7 @@ from office_gate.journal import Journal
 from office_gate.metrics import Metrics
 from office_gate.office import REPEATED, UNKNOWN, Answer, Office
 from office_gate.own_catalogue import OwnCatalogues
+from office_gate.possession import Possession
 from office_gate.questions import Questions
 from office_gate.scopes import Scopes
 from office_gate.turns import AtOnce, Turns
@@ -152,6 +153,8 @@ class Gate:
                         entry["earlier"] = earlier
                     sent = await body.bytes_of(await deciding.signed(asked.person, acts))
                     entry["acts"] = await deciding.signed(asked.person, plain)
+                    if files := await self.possess(asked, acts, questions):
+                        entry["files"] = files
                     if parts and "contents" not in entry:
                         entry["contents"] = await self.journal.in_thread(self.journal.contents.add, parts)
                     if self.counts(access):
@@ -225,6 +228,17 @@ class Gate:
         except TimeoutError:
             raise Answered(503, "office") from None
         return earlier
+
+    async def possess(self, asked: Asked, acts: list[Json], questions: Questions) -> list[Json]:
+        """Refuses contents that name a file of the vault which is not the name's. Returns what they name."""
+        if not asked.has_vault:
+            return []
+        try:
+            async with asyncio.timeout_at(asked.ends):
+                record = partial(questions.record, asked.person.name)
+                return await Possession(self.facts.files, asked.person, record).judge(acts)
+        except TimeoutError:
+            raise Answered(503, "office") from None
 
     async def resume(self, asked: Asked) -> tuple[Answer, Head]:
         """Carries out the run that is open."""
@@ -335,6 +349,13 @@ class Gate:
         """Writes the line of a file that goes into the vault now, whose digest its path names."""
         self.metrics.note("put", 204, 0.0)
         await self.journal.append({"what": "put", **self.head(asked, request)})
+
+    async def stored(self, asked: Asked, digest: str, length: int) -> None:
+        """Writes the line of a file that is in the vault now: this name had its bytes."""
+        self.metrics.note("stored", 201, 0.0)
+        # a later line may be noted before this one is on the disk, and says that all lines before it are noted
+        self.facts.files.store(asked.person.name, digest, length, time.time())
+        await self.journal.append({"what": "stored", **self.head(asked, f"PUT /vault/{digest}"), "bytes": length})
 
     async def note(self, asked: Asked, request: str, status: int, length: int) -> None:
         """Writes the line of a reading."""

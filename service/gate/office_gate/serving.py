@@ -3,6 +3,7 @@ import asyncio
 import contextlib
 import hashlib
 import json
+import re
 import sys
 import traceback
 from collections.abc import AsyncIterator, Awaitable
@@ -24,6 +25,8 @@ HEAD_SECONDS = 10
 POSTS = ("/acts", "/run/resume")
 MAY = "/may"
 """what nginx asks about a file that it has itself"""
+STORED = re.compile(r"/stored\?length=([0-9]{1,18})")
+"""what nginx reports once a file of so many bytes is in the vault"""
 GETS = ("/records/", "/due/", "/overdue/", "/certificates/", "/catalogue/", "/history", "/since", "/rights", "/alive",
         "/metrics", MAY)
 MOST_TOLD = 400
@@ -107,7 +110,9 @@ class Front(web.Server):
             guards.site(self.gate, lines, is_post)
             await self.gate.tell()
             asked = Asked(self.gate.access.person(name), lines.one("Office-From")[:64], guards.reason(lines),
-                          dict(guards.passed(lines)))
+                          dict(guards.passed(lines)), has_vault=lines.one("Office-Vault") != "none")
+            if found := STORED.fullmatch(request.raw_path):
+                return await self.stored(asked, lines, int(found[1]))
             with self.gate.requests.one(name, self.gate.access.requests_at_once):
                 method(request)
                 if is_post:
@@ -164,11 +169,22 @@ class Front(web.Server):
         verb, path = lines.one("Office-Method"), lines.one("Office-Path")
         guards.site(self.gate, lines, verb == "PUT")
         await Reading(self.gate, asked).may(verb, path)
+        back = reply(204, None)
         if verb == "PUT":
             await self.gate.put(asked, f"{verb} {path}")
+            back.headers["Office-Unnamed"] = str(self.gate.facts.files.unnamed(asked.person.name))
         else:
             await self.gate.note(asked, f"{verb} {path}", 204, 0)
-        return reply(204, None)
+        return back
+
+    async def stored(self, asked: Asked, lines: Lines, length: int) -> web.StreamResponse:
+        """Answers in the place of the vault, which took a file in; alike, whether anybody had put it in before."""
+        path = lines.one("Office-Path")
+        guards.site(self.gate, lines, True)
+        await Reading(self.gate, asked).may("PUT", path)
+        digest = path.rpartition("/")[2]
+        await self.gate.stored(asked, digest, length)
+        return reply(201, {"length": length, "sha256": digest})
 
 
 @contextlib.asynccontextmanager

@@ -20,7 +20,7 @@ class Proxy:
     """nginx in front of an office: with its gate (gated.conf), or alone (offices.conf)."""
 
     def __init__(self, folder: pathlib.Path, site: str, names: list[str], gate: pathlib.Path, office: int,
-                 catalogue: pathlib.Path) -> None:
+                 catalogue: pathlib.Path, more: dict[str, str] | None = None) -> None:
         folder.mkdir(parents=True)
         (folder / "log").mkdir()
         (folder / "temp").mkdir()
@@ -32,7 +32,7 @@ class Proxy:
                        "/var/lib/office-catalogues/city/now": str(catalogue),
                        "listen 80;": f"listen 127.0.0.1:{free_port()};",
                        "listen 443": f"listen 127.0.0.1:{self.port}", "/usr/local/share/office/web": str(TOP / "web"),
-                       "|https://$server_name": f"|https://$server_name:{self.port}"}
+                       "|https://$server_name": f"|https://$server_name:{self.port}"} | (more or {})
         for it in [*NGINX.glob("*.conf"), *NGINX.glob("*.js")]:
             self.put(it.name, it.read_text())
         self.put("gate_tokens.conf", f'"~^/city/" {TOKEN};\n')
