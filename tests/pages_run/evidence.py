@@ -46,7 +46,7 @@ ROWS = [
     Row("cut -d ' ' -f 1,2", prints=""),
     Row("mv /etc/office/city.new"),
     Row("echo 'STAMP_URL="),
-    Row("runuser -u office -g office-seal", skip="the units make these folders"),
+    Row("runuser -u office-certificates -g office-seal", skip="the units make these folders"),
     Row("systemd-run", skip="without systemd"),
 ]
 
