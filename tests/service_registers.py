@@ -102,6 +102,10 @@ def to_do(folder: pathlib.Path, file: pathlib.Path, register: pathlib.Path) -> N
         f"\nSent to the archive, and awaiting its receipt: 0\n{waits}" and "receipt" not in written.read_text(),
         sent.read_text(),
     )
+    (register.parent / f"copies-{day}.txt").write_text("old /etc/nginx/office/http.conf\n")
+    script("office-overdue-mail", register, "a@localhost", PATH=path)
+    judge("a configuration that an upgrade left behind is in the mail",
+          sent.read_text().endswith("(office-copies says what to do)\nold /etc/nginx/office/http.conf\n"), sent.read_text())
     for name, words in (("a day that is none", ("x", 30)), ("a day that is a query", ("2025-02-0'", 30)), ("too many days", (day, 3651))):
         status, out, error = script("office-todo", file, register.parent, *words, user=NOBODY)
         judge(f"{name}: no list", (status, out) == (1, ""), error.strip())

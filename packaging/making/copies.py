@@ -37,9 +37,8 @@ def blobs(sources: list[str]) -> dict[str, list[str]]:
     """Lists the contents that each file ever had, the last one first."""
     patterns = [f":(glob)**/{ends_of(it)}" for it in sources]
     contents: dict[str, list[str]] = {it: [] for it in sources}
-    for line in git("log", "--raw", "--no-renames", "--no-abbrev", "--format=", "HEAD", "--", *patterns).decode().split("\n"):
-        if not line.startswith(":"):
-            continue
+    log = git("log", "--raw", "--no-renames", "--no-abbrev", "--format=", "HEAD", "--", *patterns).decode()
+    for line in [it for it in log.split("\n") if it.startswith(":")]:
         fields, path = line.split("\t", 1)
         blob = fields.split()[3]
         for source in sources:

@@ -3,7 +3,7 @@
     member CONFIG
 
 CONFIG is a file of settings (settings.py). It runs until SIGTERM; SIGHUP makes a snapshot now.
-Status 0 after SIGTERM, 2 for wrong settings, 3 where another program has the folder or the port,
+Status 0 after SIGTERM, 1 where one of its threads ended, 2 for wrong settings, 3 where another program has the folder or the port,
 5 where it halted: then the file `halted` says why, and it does not start until that file is gone.
 """
 from __future__ import annotations
@@ -13,6 +13,7 @@ import os
 import signal
 import sys
 import threading
+import traceback
 from typing import Callable
 
 from replica.appending import Appender
@@ -29,7 +30,7 @@ from replica.service import Service
 from replica.settings import Settings, read_settings
 from replica.snapshots import Snapshots
 
-HALTED = 5
+ENDED, HALTED = 1, 5
 
 
 def made(settings: Settings) -> tuple[Log, Follower]:
@@ -47,6 +48,18 @@ def locked(settings: Settings) -> object:
     file.truncate(0)
     print(os.getpid(), file=file, flush=True)
     return file
+
+
+def lasting(part: Callable[[], None], follower: Follower) -> None:
+    """Runs a part that never returns. If it fails, the member ends, and systemd starts it again: to end it is safe."""
+    try:
+        part()
+    except BaseException:
+        traceback.print_exc()
+    if not follower.stopping.is_set():
+        say("a thread of the member ended, and so does the member")
+        sys.stderr.flush()
+        os._exit(ENDED)
 
 
 def start(settings: Settings) -> int:
@@ -71,7 +84,7 @@ def start(settings: Settings) -> int:
     threads: list[Callable[[], None]] = [clients.run, freshness.run, guard.run, follower.appender.run,
                                          lambda: log.watch(follower.appender.arrived, follower.changed)]
     for thread in threads:
-        threading.Thread(target=thread, daemon=True).start()
+        threading.Thread(target=lasting, args=(thread, follower), daemon=True).start()
     try:
         follower.run()
     except Halt as error:

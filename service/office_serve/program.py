@@ -8,6 +8,7 @@ import sys
 
 from office_serve.errors import Refused
 from office_serve.stopping import Stop
+from office_serve.streams import error_stream
 from office_serve.watching import Watch
 
 CHILD = str(pathlib.Path(__file__).with_name("child.py"))
@@ -36,8 +37,11 @@ class Program:
         """Opens FILE by a new process. Returns whether it listens; if not, somebody asked to stop meanwhile."""
         self.port, self.left = free_port(), self.count
         words = [self.path, "serve", str(self.file), str(self.port), str(self.count)]
+        errors = error_stream()
         self.process = subprocess.Popen([sys.executable, "-I", "-S", CHILD, str(os.getpid()), *words],
-                                        stdin=subprocess.DEVNULL, stdout=subprocess.PIPE)
+                                        stdin=subprocess.DEVNULL, stdout=subprocess.PIPE, stderr=errors)
+        if errors is not None:
+            os.close(errors)
         out = self.process.stdout
         assert out is not None
         watch.begin()

@@ -98,11 +98,11 @@ def judge_archive() -> None:
 def judge_shown(clone: Clone) -> None:
     with Demo(clone) as demo:
         judge("a demo says where it is", demo.hears("a city archive is at "), demo.said)
+        judge("and has its catalogue then", asked("GET", "/catalogue/about.json")[0] == 200)
         judge("the preview is compiled for it", demo.said.startswith(WHOLE) and len(clone.tried()) == 1, demo.said)
         judge("at a port of this machine alone", demo.said.endswith(
             f"office: a city archive is at http://127.0.0.1:{PORT}/web/ until you press Ctrl-C\n"), demo.said)
         judge_page()
-        until(lambda: asked("GET", "/catalogue/about.json")[0] == 200)
         status, kind, body = asked("GET", "/catalogue/records.json")
         judge("it has a catalogue", status == 200 and kind == "application/json" and body.startswith(b"\x1f\x8b"), f"{status}")
         judge_archive()

@@ -47,7 +47,7 @@ ROWS = [
     Row("mv /etc/office/city.new"),
     Row("echo 'STAMP_URL="),
     Row("echo 'STAMP_CA="),
-    Row("runuser -u office -g office-seal", skip="the units make these folders"),
+    Row("runuser -u office-certificates -g office-seal", skip="the units make these folders"),
     Row("systemd-run", skip="without systemd"),
 ]
 

@@ -9,6 +9,7 @@ ROWS = [
     Row("./office package", skip="tests/package/run makes it"),
     Row("apt-get install ./office_", skip="tests/package/run installs it"),
     Row("./office install /usr/local/bin"),
+    Row("office-copies", skip="without the package; tests/package/run upgrades one"),
     Row("office init archive.db", prints="version 2\n", then=alone("init", "archive.db", {"office": 1})),
 ]
 

@@ -7,9 +7,9 @@ from pages_run.judging import judge
 from pages_run.shell import Shell
 
 PAGE = "docs/VAULT.md"
-VAULT, SECOND, ADDRESS = "/var/lib/office-vaults/city", "/var/lib/office-vault-backups/city", "http://127.0.0.1:8081"
+VAULT, SECOND, ADDRESS = "/var/lib/office-vaults/city", "/var/lib/office-vault-backups/city", "/run/office/city/readings"
 # what the unit office-vault@city runs, at a socket that this trial asks in nginx's place
-SERVE = f"runuser -u office -g www-data -- office-vault serve {VAULT} /var/lib/vault-trial/socket --office 127.0.0.1:8081"
+SERVE = f"runuser -u office-vault -g www-data -G office-read -- office-vault serve {VAULT} /var/lib/vault-trial/socket --office {ADDRESS}"
 ASK = "curl -s --unix-socket /var/lib/vault-trial/socket http://vault"
 
 
@@ -28,8 +28,8 @@ def units_are_taken(shell: Shell) -> None:
 def serve(shell: Shell) -> None:
     """The service, as the unit starts it; the folders have the modes of the page's table."""
     shell.serve(SERVE)
-    said(shell, "the objects are for nginx to read", f"stat -c '%U:%G %a' {VAULT}/objects/00", "office:www-data 2750")
-    said(shell, "what the sweeps remember is not", f"stat -c '%U %a' {VAULT}/going", "office 700")
+    said(shell, "the objects are for nginx to read", f"stat -c '%U:%G %a' {VAULT}/objects/00", "office-vault:www-data 2750")
+    said(shell, "what the sweeps remember is not", f"stat -c '%U %a' {VAULT}/going", "office-vault 700")
     said(shell, "limits", f"{ASK}/vault/limits", '{"most":107374182400,"room":')
 
 
@@ -55,22 +55,23 @@ curl -s --data-binary @acts.json http://127.0.0.1:8081/acts"""
 
 def swept(shell: Shell) -> None:
     """A sweep, as the unit runs it: nothing that is named goes. Then the second vault, and a restore."""
-    sweep = f"runuser -u office -- office-vault sweep {VAULT} {ADDRESS}"
+    sweep = f"runuser -u office-vault -G office-read -- office-vault sweep {VAULT} {ADDRESS}"
     said(shell, "a sweep", sweep, "NAMED 2\nWAITING 0\nGONE 0\n")
 
 
 def restored(shell: Shell) -> None:
     """A file that is lost is named, and comes back from the second vault; the sweep says what was restored."""
-    mirror = "runuser -u office -- office-vault mirror"
+    mirror = "runuser -u office -G www-data -- office-vault mirror"
     said(shell, "a mirror", f"{mirror} {VAULT} {SECOND}", "damaged 0")
     shell.run(f"find {VAULT}/objects -type f -size +700k -delete")
     said(shell, "what is missing is named", f"office-vault check {VAULT} {ADDRESS}", "which is missing", 1)
-    said(shell, "it comes back", f"{mirror} {SECOND} {VAULT}", "damaged 0")
+    said(shell, "it comes back", f"office-vault mirror {SECOND} {VAULT}", "damaged 0")
     said(shell, "nothing is missing then", f"office-vault check {VAULT} {ADDRESS}", "wrong 0")
-    said(shell, "a sweep after it", f"runuser -u office -- office-vault sweep --restored {VAULT} {ADDRESS}", "GONE 0")
+    said(shell, "a sweep after it", f"runuser -u office-vault -G office-read -- office-vault sweep --restored {VAULT} {ADDRESS}", "GONE 0")
 
 
 ROWS = [
+    Row("adduser --system --group --no-create-home --home /nonexistent office-vault"),
     Row("cp -r service/vault/office_vault"),
     Row("install -m 755 service/vault/office-vault"),
     Row("cp service/vault/office-vault@.service"),
@@ -78,8 +79,8 @@ ROWS = [
     Row("cp service/vault/office-vault-check@"),
     Row("cp service/vault/office-vault-mirror@", then=units_are_taken),
     Row("install -d -m 755 /var/lib/office-vaults"),
-    Row("install -d -o office -g www-data -m 2750"),
-    Row("runuser -u office -- office-vault make /var/lib/office-vaults/city", prints="", then=serve),
+    Row("install -d -o office-vault -g www-data -m 2750"),
+    Row("runuser -u office-vault -- office-vault make /var/lib/office-vaults/city", prints="", then=serve),
     Row("systemctl", skip="without systemd"),
     Row("curl --user registrar", skip="tests/vault/run nginx asks through nginx"),
     Row("office-vault sweep /srv/vault", skip="without members"),
@@ -92,9 +93,10 @@ ROWS = [
 
 
 def run(shell: Shell) -> None:
-    shell.run("mkdir -p /usr/local/lib/office; id office || adduser --system --group --no-create-home office; install -d -o office /var/lib/vault-trial")
+    shell.run("mkdir -p /usr/local/lib/office; id office || adduser --system --group --no-create-home office; addgroup --system office-read; adduser --system --group --no-create-home office-vault; install -d -o office-vault /var/lib/vault-trial")
     shell.run("head -c 300032 /dev/urandom > scan.pdf; head -c 800000 /dev/urandom > plan.tif")
-    shell.serve("./office serve city.db 8081 1000")
+    shell.run("install -m 755 service/office-serve /usr/local/bin; ./office init city.db")
+    shell.serve("service/office-serve --readings /run/office/city/readings city.db 8081")
     run_page(shell, PAGE, ROWS)
     shell.end(kill=True)
     shell.end(kill=True)

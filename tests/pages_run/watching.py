@@ -105,6 +105,8 @@ ROWS = [
     Row("find /var/lib/office/city -name '*.before-*Z'", prints=""),
     Row("find /var/lib/office-backups/city -name '*Z.db' -mmin", like=r"\S+/city/20250103T023000Z\.db\n"),
     Row("sqlite3 \"file:$(ls -t /var/lib/office-backups", prints="", then=run_is_seen),
+    Row("journalctl --unit office@city", skip="without systemd; tests/package/run fills a disk"),
+    Row("office-copies --brief", skip="without the package; tests/package/run upgrades one"),
     Row("df --output=avail", like=r" *\d+\n"),
     Row("systemctl", skip="without systemd"),
     Row("apt-get", skip="the packages are there"),

@@ -4,6 +4,7 @@ from __future__ import annotations
 import os
 import re
 import signal
+import subprocess
 import threading
 import time
 
@@ -182,3 +183,41 @@ def hanging(cluster: Cluster) -> None:
     judge("hang: the member kills that office, goes back, and does the entry once",
           reply.status == 200 and cluster.office_process(0) != office, reply)
     same_rows(cluster, "hang")
+
+
+# loaded by Python before the member: the sleep of one module fails, as it does under a clock that is wrapped
+FAILING_SLEEP = """
+import os, sys, time
+began, real = time.monotonic(), time.sleep
+def sleep(seconds):
+    name = os.path.basename(sys._getframe(1).f_code.co_filename)
+    if name == os.environ["TRIAL_SLEEPS"] and time.monotonic() - began > 8:
+        raise OSError(22, "Invalid argument")
+    real(seconds)
+time.sleep = sleep
+"""
+
+
+def threads(cluster: Cluster) -> None:
+    """A thread of a member ends by an error: then the member ends, and a new start goes on."""
+    begun(cluster)
+    folder = cluster.folder / "failing"
+    folder.mkdir()
+    (folder / "sitecustomize.py").write_text(FAILING_SLEEP)
+    for module in ("guard.py", "freshness.py"):
+        cluster.kill("member0")
+        cluster.environment.update(PYTHONPATH=str(folder), TRIAL_SLEEPS=module)
+        cluster.start_member(0)
+        try:
+            status = cluster.processes["member0"].wait(60)
+        except subprocess.TimeoutExpired:
+            status = None
+        judge(f"threads: without that of {module} the member ends with 1", status == 1, status)
+        judge(f"threads: and says why, of {module}", "a thread of the member ended" in cluster.journal("member0"))
+        cluster.environment.pop("TRIAL_SLEEPS", None)
+        cluster.environment.pop("PYTHONPATH", None)
+        if status is not None:
+            cluster.processes.pop("member0")
+            cluster.start_member(0)
+        cluster.wait_for(0)
+    judge("threads: started again, it answers", get(cluster, 0, "/records/1").status == 200)

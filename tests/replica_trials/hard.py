@@ -268,7 +268,7 @@ TRIALS = {
     "no_quorum": no_quorum, "same_answers": same_answers, "full_disk": faults.full_disk, "full_etcd": faults.full_etcd,
     "no_memory": faults.no_memory, "damaged_file": faults.damaged_file, "flipped_byte": faults.flipped_byte,
     "away": away, "upgrade": upgrade, "wrong_file": wrong_file, "secured": secured, "units": units,
-    "isolated": age.isolated, "seen": age.seen, "slow_reading": age.slow_reading, "hanging": age.hanging,
+    "threads": age.threads, "isolated": age.isolated, "seen": age.seen, "slow_reading": age.slow_reading, "hanging": age.hanging,
     "replaced": programs.replaced, "assumed_disk": programs.assumed_disk, "slow_snapshot": programs.slow_snapshot,
     "slow_copy": programs.slow_copy, "undoable": programs.undoable, "refused": programs.refused, "moved": moving.moved,
     "one_name": moving.one_name, "gone": moving.gone, "together": together.together, "synced": syncing.synced,

@@ -169,6 +169,7 @@ MUTANTS = [
            "                    pass\n", "hanging"),
     Mutant("an office that does nothing is told of only when it is ended", "guard.py",
            "        self.office.is_still = now - self.still > self.limit / 2\n", "", "hanging"),
+    Mutant("a member goes on without one of its threads", "member.py", "        os._exit(ENDED)\n", "", "threads"),
     Mutant("the program that comes to the name is run by a member of before", "program.py", "        return subprocess.Popen(\n",
            "        self.descriptor = os.open(self.path, os.O_RDONLY)\n        return subprocess.Popen(\n", "replaced"),
 ]

@@ -3,6 +3,7 @@ import csv
 import io
 import pathlib
 import subprocess
+import sys
 from collections.abc import Callable
 
 import csip
@@ -174,6 +175,29 @@ def site(folder: pathlib.Path) -> None:
             done = transfer(fake, folder / "other", *those)
             judge(f"{name}: no bag, and a sentence", done.status == 3 and "Traceback" not in done.err
                   and not (folder / "other").exists() and "a long" not in done.err, done)
+    plain(folder)
+
+
+def plain(folder: pathlib.Path) -> None:
+    """A password goes over http to this machine alone: elsewhere nothing is sent, and a sentence says why."""
+    words = (TOOLS / "transfer", "1", folder / "plain", "--login", folder / "login", "--office")
+    for address in ("http://192.0.2.1", "http://office.example:8081/city", "http://[2001:db8::1]"):
+        done = run(*words, address)
+        judge(f"a password to {address}: nothing is sent", done.status == 2 and "without TLS" in done.err
+              and "a long" not in done.err, done)
+    for address in ("http://127.0.0.1:1", "http://localhost:1", "http://[::1]:1"):
+        done = run(*words, address)
+        judge(f"a password to {address} is this machine's own", done.status == 3 and "does not answer" in done.err, done)
+    sys.path.insert(0, str(TOOLS))
+    from asking.office import OverHttp
+    for address, is_sent in (("http://192.0.2.1", False), ("http://office.example", False), ("https://192.0.2.1", True),
+                             ("http://127.0.0.1:1", True), ("http://localhost:1", True)):
+        try:
+            OverHttp(address, "registrar:a long: one")
+            seen = True
+        except ValueError as why:
+            seen = "without TLS" not in str(why)
+        judge(f"the tools that send acts take a password {'to' if is_sent else 'not to'} {address}", seen == is_sent)
 
 
 def answers(fake: Fake) -> dict[str, Callable[[], object]]:

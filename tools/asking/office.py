@@ -3,6 +3,7 @@ from __future__ import annotations
 
 import base64
 import http.client
+import ipaddress
 import json
 import os
 import pathlib
@@ -46,6 +47,14 @@ def listed(lines: list[str]) -> str:
     return "[\n" + ",\n".join(lines) + "\n]\n"
 
 
+def is_loopback(host: str) -> bool:
+    """Returns whether a host is this machine."""
+    try:
+        return ipaddress.ip_address(host).is_loopback
+    except ValueError:
+        return host == "localhost"
+
+
 class OverHttp:
     """An office that a service serves; behind nginx with a name and a password, and TLS by `ca`."""
 
@@ -53,6 +62,8 @@ class OverHttp:
         parts = urllib.parse.urlsplit(url)
         if parts.scheme not in ("http", "https") or not parts.hostname:
             raise ValueError(f"{url} is no address of an office: write http://127.0.0.1:8080 or https://HOST")
+        if login and parts.scheme == "http" and not is_loopback(parts.hostname):
+            raise ValueError(f"{url} is asked without TLS, and everybody on the way would read the password: write https")
         self.scheme, self.host, self.port = parts.scheme, parts.hostname, parts.port
         self.path = parts.path.rstrip("/")
         self.origin = f"{parts.scheme}://{parts.netloc.rpartition('@')[2]}"

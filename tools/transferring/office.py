@@ -7,6 +7,7 @@ import json
 import ssl
 from collections.abc import Iterator
 from dataclasses import dataclass
+from ipaddress import ip_address
 from pathlib import Path
 from typing import Any, cast
 from urllib.parse import SplitResult, urlsplit
@@ -32,6 +33,9 @@ class Office:
         found = urlsplit(self.address)
         if found.scheme not in ("http", "https") or not found.hostname or found.query or found.fragment:
             raise Failed(f"{self.address} is no address of an office, as https://NAME/city", USAGE)
+        if self.login is not None and found.scheme == "http" and not is_loopback(found.hostname):
+            raise Failed(f"{self.address} is asked without TLS, and everybody on the way would read the password: write "
+                         "https", USAGE)
         return found
 
     def open(self, method: str, path: str, body: bytes | None = None) -> http.client.HTTPResponse:
@@ -82,6 +86,14 @@ class Office:
             raise Failed(f"{self.address}/{path} answers {answer.status} {text[:200]}")
         if text == '{"error":"path"}':
             raise Failed(f"{self.address} does not know the path {path}: is this the address of an office?")
+
+
+def is_loopback(host: str) -> bool:
+    """Returns whether a host is this machine."""
+    try:
+        return ip_address(host).is_loopback
+    except ValueError:
+        return host == "localhost"
 
 
 def pieces(answer: http.client.HTTPResponse, name: str) -> Iterator[bytes]:

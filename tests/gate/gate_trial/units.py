@@ -37,6 +37,7 @@ def tried(folder: pathlib.Path) -> None:
         watched(it)
         rotated(it)
         compared(it)
+        year_ended(it)
         recovered(it)
         it.run("chattr -a /var/log/office/*")
     shutil.rmtree(folder / "machine", ignore_errors=True)
@@ -94,9 +95,12 @@ def set_up(it: Machine) -> None:
 def apart(it: Machine) -> None:
     """Who reaches the port of the office, and what the gate sees."""
     ask = "curl --silent --max-time 5 http://127.0.0.1:8081/records/1"
-    for user, wanted in (("root", False), ("www-data", False), ("nobody", False), ("office-gate", True)):
+    for user in ("root", "www-data", "nobody", "office", "office-yearend", "office-gate"):
         status, said = it.run(f"runuser -u {user} -- {ask}")
-        same(f"{user} reaches the port of the office", status == 0 and '"number":1' in said, wanted)
+        same(f"{user} reaches the port of the office", status == 0 and '"number":1' in said, user == "office-gate")
+    socket = "curl --silent --unix-socket /run/office/city/readings http://office"
+    judge("root reads at the socket for readings", '"number":1' in it.run(f"{socket}/records/1")[1])
+    same("and acts not", it.run(f"{socket}/acts --data-binary '[]'")[1], '{"error":"method"}')
     seen = (f"nsenter -t $(systemctl show -P MainPID {GATE}) -m setpriv --reuid office-gate --regid office-gate "
             "--groups www-data find {} -type f -readable 2>/dev/null || true")
     for place in ("/var/lib/office", "/var/lib/office-backups", "/root", "/var/log/office/acts.log"):
@@ -220,11 +224,36 @@ def compared(it: Machine) -> None:
     judge("no row differs", "differences: 0" in said, said)
     print(said.splitlines()[-1], flush=True)
     act = json.dumps([{"act": "place-hold", "day": today(), "code": "PAST", "reason": "r", "by": "root"}])
-    it.done(f"runuser -u office -- curl --silent --data-binary '{act}' http://127.0.0.1:8081/acts; "
+    it.done(f"runuser -u office-gate -- curl --silent --data-binary '{act}' http://127.0.0.1:8081/acts; "
             "systemctl start office-backup@city", "an act past the gate")
     status, said = it.run(f"office-journal replay {JOURNAL} {older} /root/past.db --state /var/lib/office-gate/city "
                           f"--beside $(ls {COPIES}/*Z.db | tail -n 1)")
     judge("it shows", status == 1 and "holds code PAST" in said, said)
+
+
+def year_ended(it: Machine) -> None:
+    """The unit of the year's end acts through the gate, by its name; without settings for the name it fails."""
+    place = "/var/lib/office-yearend/city"
+    unit = "office-yearend@city"
+    acts = json.dumps([{"act": "add-aggregation", "day": today(), "ref": "Y/1", "title": "next year", "parent": None,
+                        "class": "BLDG1"}])
+    it.done(f"cp service/office-yearend@.service /etc/systemd/system/; systemctl daemon-reload; mkdir -p {place}; "
+            f"echo '{acts}' > {place}/{today()}-1.json; chmod 644 {place}/*", "a list of today")
+    start = (f"systemctl start {unit}; systemctl show -P Result {unit}; "
+             f"journalctl -o cat -u {unit} --no-pager | tail -n 5")
+    said = it.run(start)[1]
+    judge("the list is sent", said.startswith("success") and "1 done, 0 refused" in said, said)
+    lines = it.run(f"grep -h '\"name\":\"yearend\"' {JOURNAL}")[1]
+    judge("the journal has the act, by its name", '"ref":"Y/1"' in lines and "add-aggregation" in lines, lines)
+    same("the answer is beside it", it.run(f"cat {place}/*.answers | grep -c number")[1], "1")
+    it.done(f"sed -i.before '/yearend/d' {ACCESS}; echo '{acts.replace('Y/1', 'Y/2')}' > {place}/{today()}-1.json")
+    said = it.run(start)[1]
+    judge("settings without the name: it fails, and does not go past the gate", "exit-code" in said
+          and "name yearend is" in said, said)
+    it.done(f"mv {ACCESS}.before {ACCESS}; chgrp office-gate {ACCESS}; systemctl start office-backup@city")
+    newest = f"$(ls {COPIES}/*Z.db | tail -n 1)"
+    same("and no file was made", it.run(f"sqlite3 {newest} \"SELECT ref FROM aggregations WHERE ref LIKE 'Y/%'\"")[1],
+         "Y/1")
 
 
 def recovered(it: Machine) -> None:

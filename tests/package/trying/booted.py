@@ -4,9 +4,10 @@ import shutil
 import subprocess
 import time
 
+from trying.apart import judge_apart
 from trying.judging import judge
 from trying.machine import Done, Machine, run
-from trying.stopping import ASK_FILE, judge_compaction, judge_missing, judge_pruned, judge_stopping
+from trying.stopping import ASK_FILE, judge_compaction, judge_hung, judge_missing, judge_pruned, judge_stopping
 
 CITY = "/var/lib/office/city"
 # asks the service, for half a minute at most: the body of an answer is its last line
@@ -73,6 +74,8 @@ def judge_units(booted: Booted) -> None:
     judge_stopping(booted)
     judge_compaction(booted)
     judge_pruned(booted)
+    judge_apart(booted)
+    judge_hung(booted)
 
 
 def judge_upgrade(booted: Booted, second: pathlib.Path) -> None:

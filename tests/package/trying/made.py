@@ -8,6 +8,7 @@ import subprocess
 
 from making import staging
 from making.words import TOP, table
+from trying import copies
 from trying.judging import judge
 from trying.machine import run
 
@@ -40,17 +41,23 @@ def judge_list() -> None:
 
 
 def judge_version(place: pathlib.Path) -> None:
-    """A package of later changes has a version of its own, which names the commit."""
+    """A package of later changes has a version of its own, which names the commit; the later of one day is greater."""
     last = "## 1.0.0 (2026-11-27)\n\n- A change.\n"
     commit = run(["git", "-C", TOP, "log", "-1", "--format=%h"]).out.strip()
+    count = run(["git", "-C", TOP, "rev-list", "--count", "HEAD"]).out.strip()
     for name, text, wanted in (("released", last, r"1\.0\.0"), ("empty", f"## Next\n\n{last}", r"1\.0\.0"),
-                               ("later", f"## Next\n\n- A later one.\n\n{last}", rf"1\.0\.0\+git\d{{8}}\.{commit}")):
+                               ("later", f"## Next\n\n- A later one.\n\n{last}", rf"1\.0\.0\+git\d{{8}}\.{count}\.{commit}")):
         file = place / f"{name}.md"
         file.write_text(f"# Changes\n\n{text}")
         code = (f"import sys; sys.path.insert(0, '{MAKE.parent}'); from making.changelog import versions; "
                 "print(versions()[0].number)")
         done = run(["python3", "-B", "-c", code], CHANGELOG=str(file))
         judge(f"the version of a list of changes, {name}", re.fullmatch(wanted, done.out.strip()), done)
+    later = done.out.strip()
+    earlier = later.replace(f".{count}.{commit}", f".{int(count) - 1}.fffffff")
+    done = run(["dpkg", "--compare-versions", earlier, "lt", later])
+    judge("the package of the commit before, of the same day, is the older one", done.status == 0 and earlier != later,
+          (earlier, later))
 
 
 def judge_lintian(file: pathlib.Path) -> None:
@@ -193,5 +200,6 @@ def judge_made(file: pathlib.Path, place: pathlib.Path) -> None:
     judge_completion(top)
     judge_tools(top)
     judge_named(top)
+    copies.judge_list(top)
     judge_launcher(file, top, place)
     judge_refusals(place)

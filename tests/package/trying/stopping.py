@@ -81,6 +81,8 @@ def judge_full(booted: "Booted") -> None:
     tried = f"for m in $(seq 40); do s=$({ASK} 8083 full-$n 60 | cut -c 1-3); [ $s = 503 ] && break; sleep 0.5; done; "
     done = booted.run(f"for n in $(seq 12); do {tried} echo $s; done; {ASK} 8083 /records/1 | cut -c 1-3")
     judge("systemd: a full disk: acts get 503, and readings go on", done.out == "503\n" * 12 + "200\n", done)
+    done = booted.run("journalctl --sync; journalctl -p err -o cat -u office@small | grep 'office: fault'")
+    judge("systemd: and its faults are errors of the journal", "fault 3" in done.out, done)
     booted.run(f"rm {SMALL}/other")
     began, last = time.monotonic(), None
     while time.monotonic() - began < 300:
@@ -115,6 +117,25 @@ def judge_pruned(booted: "Booted") -> None:
     judge("systemd: the nightly unit removes an old file, and fails over a copy that is not good",
           done.out.startswith("failed\n0\n") and f"removed: {CITY}/office.db.before-{old}\n" in done.out
           and f"the office does not open {copies}/{old}.db\n" in done.out, done)
+
+
+def judge_hung(booted: "Booted") -> None:
+    """A program that hangs is started again by office-serve, and office-serve, if it hangs, by systemd."""
+    place = "/run/systemd/system/office@city.service.d"
+    booted.run(f"mkdir -p {place}; printf '[Service]\\nWatchdogSec=6\\nExecStart=\\nExecStart=/usr/bin/office-serve "
+               "--hang-seconds 4 --readings /run/office/%%i/readings /var/lib/office/%%i/office.db ${PORT}\\n' "
+               f">{place}/short.conf; systemctl daemon-reload; systemctl restart office@city")
+    serve = "$(systemctl show -P MainPID office@city)"
+    program = f"$(cut -d ' ' -f 1 /proc/{serve}/task/{serve}/children)"
+    restarts = "systemctl show -P NRestarts office@city"
+    done = booted.run(f"sleep 10; {restarts}; p={program}; kill -STOP $p; sleep 9; test -e /proc/$p || echo ended; "
+                      f"{ASK} 8081 /records/1 | cut -c 1-3; {restarts}")
+    judge("systemd: a program that hangs is started again, by the same service", done.out == "0\nended\n200\n0\n", done)
+    done = booted.run(f"kill -STOP {serve}; sleep 8; {ASK} 8081 /records/1 | cut -c 1-3; {restarts}; "
+                      "journalctl -o cat -u office@city | grep -ci watchdog")
+    judge("systemd: an office-serve that hangs is started again by the watchdog, and clients wait",
+          done.out.startswith("200\n1\n") and int(done.out.split()[2]) > 0, done)
+    booted.run(f"rm -r {place}; systemctl daemon-reload; systemctl restart office@city")
 
 
 MAIL = """#!/bin/sh

@@ -4,6 +4,7 @@ import pathlib
 
 from making import staging
 from making.words import TOP
+from trying import copies
 from trying.judging import judge
 from trying.machine import Machine
 
@@ -15,7 +16,8 @@ SERVICE = (f"rm -f /tmp/line; {AS_OFFICE} office serve {CITY} 8081 100 >/tmp/lin
            "until grep -qs listening /tmp/line; do sleep 0.1; done; ")
 ASKED = ("exec 3<>/dev/tcp/127.0.0.1/8081; printf 'GET /due/0001-01-01 HTTP/1.0\\r\\n\\r\\n' >&3; tail -n 1 <&3; ")
 STAYS = ("/var/lib/office", "/var/lib/office-backups", "/var/lib/office-registers", "/var/lib/office-catalogues",
-         "/var/lib/office-vaults", "/var/lib/office-vault-backups", "/var/lib/office-gate", "/var/log/office",
+         "/var/lib/office-vaults", "/var/lib/office-vault-backups", "/var/lib/office-gate", "/var/lib/office-yearend",
+         "/var/log/office",
          "/var/cache/office-catalogue", "/etc/office")
 SUMS = "find /var/lib/office /var/lib/office-backups /etc/office -type f -exec sha256sum {} + | sort"
 UNIT = "/etc/systemd/system/multi-user.target.wants/office@city.service"
@@ -45,6 +47,9 @@ def judge_installed(machine: Machine, file: pathlib.Path) -> None:
     judge("once that person has another name it is installed", done.status == 0, done)
     machine.run("userdel clerk")
     says("dpkg finds each file as it was packed", machine, "dpkg --verify office", "")
+    done = machine.run("for it in office-mail office-seal office-gate office-vault office-certificates office-yearend; do "
+                       "id -u $it || exit 1; done; getent group office-read")
+    judge("so are a user for each service, and the group that asks for readings", done.status == 0, done)
     says("the user office is there, without a home or a shell", machine, "getent passwd office | cut -d: -f6-",
          "/nonexistent:/usr/sbin/nologin\n")
     names = " ".join(it.replace("@*", "@city") for it in staging.units())
@@ -78,10 +83,14 @@ def judge_used(machine: Machine) -> None:
 
 def judge_upgraded(machine: Machine, file: pathlib.Path) -> None:
     machine.put(file, "/root/office.deb")
+    copies.put_older(machine)
     done = machine.run(f"{SERVICE}{SUMS} >/tmp/before; dpkg -i /root/office.deb && {SUMS} >/tmp/after; {ASKED}")
     judge("it is upgraded, and says until when services go on with the old program", done.status == 0
-          and "systemctl restart 'office@*'" in done.out, done)
+          and "systemctl restart 'office@*' 'office-vault@*'" in done.out, done)
     judge("a service that runs answers after it", done.out.endswith("[]"), done)
+    copies.judge_named("the upgrade", done.out)
+    copies.judge_named("office-copies", machine.run("office-copies").out)
+    copies.judge_replaced(machine)
     says("dpkg has the new version", machine, "dpkg-query -W -f '${Version} ${db:Status-Status}' office",
          "1000.0.0 installed")
     before, after = (machine.path(f"/tmp/{it}").read_text() for it in ("before", "after"))
