@@ -121,9 +121,11 @@ def refusals(world: World) -> None:
     world.act("legal", {"act": "lift-hold", "hold": "NONE"}, Office_Reason="a%20mistake")
     row = asked(world, "auditor", "hold=NONE")[0]
     same("refused by the office", (row["status"], row["answer"], row["reason"]), (409, {"refused": 5}, "a mistake"))
-    world.act("registry", {"act": "lift-hold", "hold": "NONE"})
+    world.act("clerk", {"act": "hold-on", "hold": "NONE", "target": "record:2"})
     row = asked(world, "auditor", "hold=NONE")[0]
-    same("refused by the gate", (row["name"], row["status"], row["answer"]["error"]), ("registry", 403, "right"))
+    same("refused by the gate", (row["name"], row["status"], row["answer"]["error"]), ("clerk", 403, "class"))
+    world.act("registry", {"act": "lift-hold", "hold": "NONE"})
+    same("a name without the right leaves no text of its own", len(asked(world, "auditor", "hold=NONE")), 2)
 
 
 def rights(world: World) -> None:
