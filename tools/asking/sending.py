@@ -11,6 +11,10 @@ from asking.office import MOST_BYTES, Act, Answer, Office, Stopped, line_of
 MOST_ACTS = 100
 
 
+class NotMade(Exception):
+    """An act cannot be made now; the text says why. The others go on."""
+
+
 class Item(Protocol):
     """An act that may wait for the numbers of aggregations."""
 
@@ -26,6 +30,8 @@ class Sent:
     answers: list[Answer | None]
     stopped: str = ""
     numbers: dict[str, int] = field(default_factory=dict)
+    # why an act was not made, by its place
+    unmade: dict[int, str] = field(default_factory=dict)
 
     def refused(self) -> int:
         return sum("refused" in it for it in self.answers if it)
@@ -51,7 +57,10 @@ class Sender:
                 if any(ref not in self.numbers for ref in item.needs()):
                     self.flush(sent)
                 if all(ref in self.numbers for ref in item.needs()):
-                    self.take(at, item.made(self.numbers), sent)
+                    try:
+                        self.take(at, item.made(self.numbers), sent)
+                    except NotMade as why:
+                        sent.unmade[at] = str(why)
                 told(at + 1)
             self.flush(sent)
         except Stopped as why:

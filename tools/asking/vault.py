@@ -41,6 +41,11 @@ def place_of(name: str) -> str:
     return plain.encode(errors="replace").decode()
 
 
+def manifest(digest: str, length: int, name: str) -> bytes:
+    """The text that names a file of the vault."""
+    return f"SHA256 {digest}\nLENGTH {length}\nPLACE {place_of(name)}\n".encode()
+
+
 @dataclass
 class Vault:
     """The vault of the office at an address behind nginx, and what was put into it."""
@@ -77,7 +82,7 @@ class Vault:
                     raise NotPut(f"{name} is not in the vault: {why_not(status, body)}")
         self.files, self.bytes = self.files + 1, self.bytes + length
         self.first = self.first or datetime.datetime.now()
-        return f"SHA256 {digest}\nLENGTH {length}\nPLACE {place_of(name)}\n".encode()
+        return manifest(digest, length, name)
 
     def told(self) -> str:
         """What was put in, and until when the records must be filed that name it."""

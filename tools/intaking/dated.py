@@ -1,12 +1,7 @@
-"""What a file says of itself: the day of a mail by its header, that of a picture by its EXIF, others by their names."""
+"""What a file says of its day: a picture by its EXIF, others by their names."""
 from __future__ import annotations
 
-import codecs
 import datetime
-import email.header
-import email.parser
-import email.policy
-import email.utils
 import re
 import struct
 
@@ -14,33 +9,6 @@ import struct
 HEAD = 262_144
 DATE_TAGS = (0x9003, 0x9004, 0x0132)
 EXIF_POINTER = 0x8769
-
-
-def mail_of(data: bytes) -> tuple[datetime.date | None, str]:
-    """The day and the subject of a mail, by its header: the day is that of its own time zone."""
-    head = email.parser.BytesHeaderParser(policy=email.policy.compat32).parsebytes(data)
-    # bytes that are no ASCII are taken for UTF-8, as many programs write them
-    fields: dict[str, str] = {}
-    for name, text in head.raw_items():
-        plain = text.encode("utf-8", "surrogateescape").decode("utf-8", "replace")
-        fields.setdefault(name.lower(), " ".join(plain.splitlines()))
-    subject = subject_of(fields.get("subject", ""))
-    try:
-        return email.utils.parsedate_to_datetime(fields.get("date", "")).date(), subject
-    except (TypeError, ValueError):
-        return None, subject
-
-
-def subject_of(text: str) -> str:
-    """A subject in words; bytes in an encoding that nobody knows are read as Latin-1."""
-    parts = []
-    for part, charset in email.header.decode_header(text):
-        try:
-            name = codecs.lookup(charset or "ascii").name
-        except LookupError:
-            name = "latin-1"
-        parts.append(part.decode(name, errors="replace") if isinstance(part, bytes) else part)
-    return "".join(parts)
 
 
 def picture_day(data: bytes) -> datetime.date | None:

@@ -7,7 +7,7 @@ from dataclasses import dataclass, field
 
 from spreadsheet.cells import Wrong, in_one_line, note_of, text_of
 from spreadsheet.columns import Columns
-from spreadsheet.days import Order, day_read, order_of, why_no_day
+from spreadsheet.days import Order, at_place, day_read, order_of, why_no_day
 from spreadsheet.kinds import MAYBE, MEMBERS, WORDS, form_of, word_named
 from spreadsheet.members import Pending, Things, count_of, digest_of, look_day, needed_code, word_of
 from spreadsheet.sheet import Row, in_quotes, place
@@ -71,6 +71,7 @@ class Asked:
     first_year: int | None = None
     join_lines: bool = False
     is_late_meant: bool = False
+    zone: datetime.tzinfo | None = None
 
 
 class ActTurner:
@@ -117,6 +118,8 @@ class ActTurner:
             return self.columns.values[name]
         at = self.columns.places.get(name, len(row.cells))
         cell = row.cells[at].strip() if at < len(row.cells) else ""
+        if name in self.days():
+            cell = at_place(cell, self.asked.zone)
         return in_one_line(cell) if self.asked.join_lines and name in TEXTS else cell
 
     def where(self, row: Row, name: str) -> str:

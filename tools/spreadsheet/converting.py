@@ -17,7 +17,7 @@ from spreadsheet.cells import Files, Wrong
 from spreadsheet.columns import RECORD, Columns, Form, columns_of
 from spreadsheet.days import ORDERS, Order, day_read
 from spreadsheet.history import FILES, RECORDS, HistoryTurner, sorted_acts
-from spreadsheet.kinds import form_of, kind_shown
+from spreadsheet.kinds import form_of, kind_shown, named
 from spreadsheet.lists import write
 from spreadsheet.members import Pending, Things
 from spreadsheet.plan import in_order
@@ -72,7 +72,8 @@ class Converter:
     def options(self) -> Asked:
         if "day" in self.set and day_read(self.set["day"], "ymd", None) is None:
             raise Unreadable("day", f"--set day={self.set['day']}: write it as 2020-12-31")
-        return Asked(self.today, self.asked.days, self.asked.years, self.asked.join_lines, self.asked.late)
+        return Asked(self.today, self.asked.days, self.asked.years, self.asked.join_lines, self.asked.late,
+                     self.asked.zone)
 
     def form(self, at: int, header: list[str]) -> tuple[str, Form]:
         """The kind of the rows of a sheet, and its columns."""
@@ -81,6 +82,11 @@ class Converter:
         kind = self.asked.act
         if kind == "plan":
             kind = kind_shown(header) or "plan"
+            # of a file it would have a class, or the file around it
+            if kind == "add-aggregation" and not {"class", "parent"} & {*named(form_of(kind), header), *dict(self.asked.column)}:
+                raise Unreadable("kind", f"sheet {at + 1} has refs and titles alone, and no act takes a file away again: are these "
+                                 "classes or files? For files say --act add-aggregation; for classes say --act add-class, "
+                                 "--column code=.. and --column schedule=..")
         return kind, form_of(kind, with_day=True)
 
     def read(self, at: int, path: pathlib.Path) -> Sheet:

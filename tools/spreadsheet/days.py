@@ -10,7 +10,11 @@ from spreadsheet.sheet import Unreadable
 
 ORDERS = {"dmy": "day, month, year", "mdy": "month, day, year", "ymd": "year, month, day"}
 # a time behind a day is passed over
-TIME = r"(?:[ T]\d{1,2}:\d{2}(?::\d{2}(?:\.\d+)?)?(?: ?[AaPp][Mm])?Z?)?"
+CLOCK = r"[ T]\d{1,2}:\d{2}(?::\d{2}(?:\.\d+)?)?(?: ?[AaPp][Mm])?"
+TIME = rf"(?:{CLOCK})?"
+# unless it is the time of a zone that the cell names: the day depends on the place then
+ZONED = re.compile(rf"\d{{1,4}}[./-] ?\d{{1,2}}[./-] ?\d{{1,4}}\.?{CLOCK} ?(?:[Zz]|[+-]\d{{2}}:?\d{{2}})", re.ASCII)
+MOMENT = re.compile(r"(\d{4}-\d{2}-\d{2})[ T](\d{2}:\d{2})(?::\d{2}(?:\.\d+)?)? ?(?:[Zz]|([+-]\d{2}):?(\d{2}))", re.ASCII)
 YEAR_FIRST = re.compile(rf"(\d{{4}})([./-]) ?(\d{{1,2}})\2 ?(\d{{1,2}})\.?{TIME}", re.ASCII)
 YEAR_LAST = re.compile(rf"(\d{{1,2}})([./-]) ?(\d{{1,2}})\2 ?(\d{{4}}){TIME}", re.ASCII)
 SHORT_YEAR = re.compile(rf"(\d{{1,2}})([./-]) ?(\d{{1,2}})\2 ?(\d{{1,2}}){TIME}", re.ASCII)
@@ -33,6 +37,18 @@ def day(year: int, month: int, day_of_month: int) -> datetime.date | None:
     except ValueError:
         return None
     return made if made.year <= LAST_YEAR else None
+
+
+def at_place(text: str, zone: datetime.tzinfo | None) -> str:
+    """The day of a moment in a zone; a text that is no moment, or a moment without a zone to see it from, as it is."""
+    it = MOMENT.fullmatch(text) if zone else None
+    if it is None:
+        return text
+    try:
+        moment = datetime.datetime.strptime(f"{it[1]} {it[2]} {it[3] or '+00'}{it[4] or '00'}", "%Y-%m-%d %H:%M %z")
+        return moment.astimezone(zone).date().isoformat()
+    except (ValueError, OverflowError):
+        return text
 
 
 def readings(text: str, first_year: int | None) -> dict[str, datetime.date]:
@@ -61,8 +77,14 @@ def long_year(short: int, first_year: int) -> int:
 def order_of(cells: Iterable[tuple[str, str]], asked: str | None, first_year: int | None) -> Order:
     """The one order by which all cells are days that are days by any. Cells come with their places.
 
-    Where no order does it, or several do and one cell means another day by each, somebody must say which.
+    Where no order does it, or several do and one cell means another day by each, somebody must say which. So must
+    somebody say at which place the day of a moment is.
     """
+    cells = list(cells)
+    for where, text in cells:
+        if ZONED.fullmatch(text):
+            raise Unreadable("zone", f"{where}: \"{text}\" names a time zone, and its day is another one elsewhere: say "
+                             "--zone Europe/Berlin for the days there, and write it as 2020-12-31T23:30:00Z")
     if asked:
         return Order(asked, None)
     fits, shown = list(ORDERS), None

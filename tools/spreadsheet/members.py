@@ -52,7 +52,7 @@ def digest_of(cell: str) -> str:
 
 def without_guard(ref: str) -> str:
     """A ref without the apostrophe that the page's CSV puts before what a spreadsheet program would compute."""
-    return ref[1:] if re.match(r"'[=+\-@\t\r]", ref) else ref
+    return ref[1:] if re.match("'[=+\\-@\t\r\n\uff1d\uff0b\uff0d\uff20]", ref) else ref
 
 
 class Things:

@@ -10,7 +10,7 @@ from dataclasses import dataclass, field
 from spreadsheet.catalogue import Catalogue
 from spreadsheet.cells import Files, Wrong, code_of, content_of, in_one_line, note_of, number_of, text_of
 from spreadsheet.columns import NAMES, Columns
-from spreadsheet.days import Order, day_read, order_of, why_no_day
+from spreadsheet.days import Order, at_place, day_read, order_of, why_no_day
 from spreadsheet.members import Things, look_day
 from spreadsheet.sheet import Row, in_quotes, place
 
@@ -47,9 +47,11 @@ class Turner:
     """Turns rows by the columns of a sheet; `first_year` is that of two digits, where they may be a year."""
 
     def __init__(self, columns: Columns, files: Files | None, first_year: int | None, join_lines: bool,
-                 today: datetime.date | None = None, catalogue: Catalogue | None = None) -> None:
+                 today: datetime.date | None = None, catalogue: Catalogue | None = None,
+                 zone: datetime.tzinfo | None = None) -> None:
         self.columns, self.files, self.first_year, self.join_lines = columns, files, first_year, join_lines
         self.today, self.things = today or datetime.date.today(), Things(catalogue)
+        self.zone = zone
         self.refs: dict[str, int] = {}
         self.order = Order("ymd", None)
 
@@ -70,6 +72,8 @@ class Turner:
             return self.columns.values[name]
         at = self.columns.places.get(name, len(row.cells))
         cell = row.cells[at].strip() if at < len(row.cells) else ""
+        if name == "originated":
+            cell = at_place(cell, self.zone)
         return in_one_line(cell) if self.join_lines and name in ("ref", "title") else cell
 
     def where(self, row: Row, name: str) -> str:

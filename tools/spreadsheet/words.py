@@ -4,6 +4,7 @@ from __future__ import annotations
 import argparse
 import pathlib
 import re
+import zoneinfo
 
 from spreadsheet.columns import NAMES
 from spreadsheet.days import ORDERS
@@ -38,9 +39,17 @@ def year(text: str) -> int:
     return int(text)
 
 
+def zone(text: str) -> zoneinfo.ZoneInfo:
+    try:
+        return zoneinfo.ZoneInfo(text)
+    except (zoneinfo.ZoneInfoNotFoundError, ValueError, OSError) as why:
+        raise argparse.ArgumentTypeError(f"no time zone is named {text}; Europe/Berlin and UTC are") from why
+
+
 def add_reading(parser: argparse.ArgumentParser) -> None:
     """The words that say how a sheet is read."""
     parser.add_argument("--days", choices=ORDERS, help="the order of day, month and year in the columns of days")
+    parser.add_argument("--zone", type=zone, help="the day of a moment with a time zone is that in this one, as Europe/Berlin")
     parser.add_argument("--years", type=year, metavar="FIRST", help="two digits mean one of the 100 years from FIRST")
     parser.add_argument("--column", type=pair, action="append", default=[], metavar="NAME=HEADER",
                         help='which column is NAME, as ref="Reference No" or ref=B')

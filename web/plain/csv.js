@@ -1,8 +1,8 @@
 // A table as CSV for a spreadsheet program: no cell of it is taken for a formula there.
 import { written } from "../sheet/rows.js";
 
-/** With one of these a spreadsheet program takes a cell for a formula, or for the end of one. */
-const FORMULA = /^[=+\-@\t\r]/;
+/** With one of these a spreadsheet program takes a cell for a formula, or for the end of one; some are of full width. */
+const FORMULA = /^[=+\-@\t\r\n\uff1d\uff0b\uff0d\uff20]/;
 
 /** A cell as text that no spreadsheet program computes: what begins like a formula gets an apostrophe before it. */
 export const harmless = (cell) => (FORMULA.test(cell) ? `'${cell}` : cell);

@@ -5,7 +5,10 @@ import { Unreadable, Wrong } from "./unreadable.js";
 
 export const ORDERS = ["dmy", "mdy", "ymd"];
 // a time behind a day is passed over
-const TIME = "(?:[ T]\\d{1,2}:\\d{2}(?::\\d{2}(?:\\.\\d+)?)?(?: ?[AaPp][Mm])?Z?)?";
+const CLOCK = "[ T]\\d{1,2}:\\d{2}(?::\\d{2}(?:\\.\\d+)?)?(?: ?[AaPp][Mm])?";
+const TIME = `(?:${CLOCK})?`;
+// unless it is the time of a zone that the cell names: the day depends on the place then
+const ZONED = new RegExp(`^\\d{1,4}[./-] ?\\d{1,2}[./-] ?\\d{1,4}\\.?${CLOCK} ?(?:[Zz]|[+-]\\d{2}:?\\d{2})$`);
 const YEAR_FIRST = new RegExp(`^(\\d{4})([./-]) ?(\\d{1,2})\\2 ?(\\d{1,2})\\.?${TIME}$`);
 const YEAR_LAST = new RegExp(`^(\\d{1,2})([./-]) ?(\\d{1,2})\\2 ?(\\d{4})${TIME}$`);
 const SHORT_YEAR = new RegExp(`^(\\d{1,2})([./-]) ?(\\d{1,2})\\2 ?(\\d{1,2})${TIME}$`);
@@ -44,9 +47,12 @@ export function readings(text, firstYear) {
 
 /**
  * The one order by which all cells are days that are days by any. Cells come with their places. Where no order does it,
- * or several do and one cell means another day by each, somebody must say which.
+ * or several do and one cell means another day by each, somebody must say which. A moment with a time zone has no day
+ * here.
  */
 export function orderOf(cells, asked, firstYear) {
+  const zoned = cells.find(([, text]) => ZONED.test(text));
+  if (zoned) throw new Unreadable("zone", { where: zoned[0], text: zoned[1] });
   if (asked) return { name: asked, shown: null };
   let fits = [...ORDERS];
   let shown = null;

@@ -47,7 +47,7 @@ export function digestOf(cell) {
 }
 
 /** A ref without the apostrophe that the page's CSV puts before what a spreadsheet program would compute. */
-const withoutGuard = (ref) => (/^'[=+\-@\t\r]/.test(ref) ? ref.slice(1) : ref);
+export const withoutGuard = (ref) => (/^'[=+\-@\t\r\n\uff1d\uff0b\uff0d\uff20]/.test(ref) ? ref.slice(1) : ref);
 
 /** Numbers of records and aggregations by what cells say: a number, or a ref that the catalogue has. */
 export class Things {

@@ -110,13 +110,10 @@ export function separated(text, known, header, asked) {
   return { separator: name, rows: [...rowsOf(rest, SEPARATORS[name])] };
 }
 
-function inQuotes(cell, separator) {
-  const needsQuotes = /["\r\n]/.test(cell) || cell.includes(separator);
-  return needsQuotes ? `"${cell.replaceAll('"', '""')}"` : cell;
-}
+const inQuotes = (cell) => `"${cell.replaceAll('"', '""')}"`;
 
-/** Rows as a text of CSV, with the mark by which Excel knows UTF-8. */
+/** Rows as a text of CSV, with the mark by which Excel knows UTF-8. A program that takes another separator parts no cell. */
 export function written(rows, separator) {
-  const lines = rows.map((cells) => cells.map((cell) => inQuotes(cell, separator)).join(separator));
+  const lines = rows.map((cells) => cells.map(inQuotes).join(separator));
   return `\ufeff${lines.join("\r\n")}\r\n`;
 }

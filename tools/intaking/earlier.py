@@ -1,0 +1,55 @@
+"""Mails that an earlier version filed: it gave them refs by their places in the mailbox, so they keep these."""
+from __future__ import annotations
+
+import hashlib
+import http.client
+import io
+import json
+import re
+from dataclasses import dataclass, field
+
+from asking.office import OverHttp
+from asking.vault import digest_of, manifest
+from intaking.folders import Unusable
+from intaking.records import PLACE, Record
+from spreadsheet.cells import LONGEST_CONTENT
+
+
+@dataclass
+class Earlier:
+    """The records of mails in an office whose refs are places, by the digest of their contents."""
+
+    office: OverHttp
+    # the numbers of all records by their refs
+    numbers: dict[str, int]
+    known: dict[str, dict[str, str]] = field(default_factory=dict)
+
+    def refs(self, form: str) -> dict[str, str]:
+        """The refs of one form, by the digest of each record's content."""
+        if form not in self.known:
+            pattern = re.compile(re.escape(form).replace(re.escape(PLACE), "[0-9]{5}"))
+            self.known[form] = {self.digest(number): ref for ref, number in self.numbers.items() if pattern.fullmatch(ref)}
+        return self.known[form]
+
+    def digest(self, number: int) -> str:
+        try:
+            status, body = self.office.request("GET", f"/records/{number}")
+            if status == 200:
+                return str(json.loads(body)["digest"])
+        except (OSError, http.client.HTTPException, ValueError, KeyError, TypeError) as why:
+            raise Unusable(f"the office gave no record {number}: {why}") from why
+        raise Unusable(f"the office answers {status} for record {number}, which may be a mail that is filed already")
+
+    def take(self, record: Record) -> str | None:
+        """Gives a mail the ref that it has already, if it has one, and returns that."""
+        data = record.document.data()
+        digests = {hashlib.sha256(data).hexdigest(): record.place}
+        found = self.refs(record.earlier)
+        if len(data) > LONGEST_CONTENT:
+            # the text that names a large file has its place as well
+            names = [f"{record.document.path.stem}-{int(ref[-5:])}.eml" for ref in found.values() if ref[-5:].isdigit()]
+            digests = {hashlib.sha256(manifest(*digest_of(io.BytesIO(data)), name)).hexdigest(): name for name in names}
+        for digest in digests.keys() & found.keys():
+            record.act["ref"], record.place = found[digest], digests[digest]
+            return found[digest]
+        return None
