@@ -3,6 +3,7 @@ import * as warning from "./clock_warning.js";
 import { field, renewDays } from "./fields.js";
 import * as officeName from "./name.js";
 import * as offers from "./offers.js";
+import { nameForms } from "./form_names.js";
 import { byId, made, translate } from "./page.js";
 import * as paper from "./paper.js";
 import * as refs from "./refs.js";
@@ -101,6 +102,7 @@ async function begin() {
   translate(document);
   // the views come first, so that a list is whole before its links are left out
   for (const view of Object.values(VIEWS)) view.start();
+  nameForms();
   warning.start();
   officeName.start();
   paper.start();

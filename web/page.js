@@ -38,6 +38,16 @@ export function plural(key, count, values = {}) {
 /** A number of bytes, in words. */
 export const inBytes = (count) => plural("page.bytes", count);
 
+const UNITS = ["B", "kB", "MB", "GB", "TB"];
+
+/** A number of bytes in short, as 30 MB. */
+export function inShort(count) {
+  let [size, unit] = [count, 0];
+  for (; size >= 1000 && unit < UNITS.length - 1; unit += 1) size /= 1000;
+  const digits = { maximumFractionDigits: unit && size < 10 ? 1 : 0 };
+  return `${size.toLocaleString(all().lang, digits)} ${UNITS[unit]}`;
+}
+
 /** A text as nodes, with an element at each of its places that has one, and a text at the others. */
 export function sentence(key, parts) {
   return t(key).split(/(\{\w+\})/).map((piece) => {
@@ -79,7 +89,7 @@ function ownWords(answer) {
   return made("div", { class: "words" }, made("p", {}, `${who} `, made("code", {}, `${words.slice(0, SHORT)} ...`)), whole);
 }
 
-/** The answer itself, out of the way: where the page says all of it in words. */
+/** The answer itself, behind a summary, since the page has said all of it in words. */
 export const details = (answer) => made("details", { class: "raw" }, made("summary", {}, t("said.details")), ownWords(answer));
 
 const ended = (text) => (/[.?!]$/.test(text) ? text : `${text}.`);
@@ -92,26 +102,43 @@ function explanation(row) {
   return lines;
 }
 
-/** What an answer says in its own words, behind a summary where it is a success, and what that means by docs/ERRORS.md. */
+/** What an answer means by docs/ERRORS.md, and the answer itself behind a summary: a failure begins with words. */
 export function told(answer) {
   const rows = explained(all(), answer);
-  const means = rows.flatMap(explanation);
   const isFailure = answer.status === 0 || answer.status >= 400;
-  const words = isFailure ? ownWords(answer) : details(answer);
-  return [words, ...(isFailure && !rows.length ? [paragraph(t("said.strange"))] : means)];
+  if (!isFailure) return [details(answer), ...rows.flatMap(explanation)];
+  return [...(rows.length ? rows.flatMap(explanation) : [paragraph(t("said.strange"))]), details(answer)];
+}
+
+const LONG = "table, ul, dl.totals, details, button";
+const isLong = (node) => node.nodeType === Node.ELEMENT_NODE && (node.matches(LONG) || node.querySelector(LONG) !== null);
+
+/** A place for sentences that a screen reader reports, with room after them for tables and lists, which it does not. */
+export const sentencesOf = () => made("div", { role: "status" });
+
+/** Puts nodes into a place: of one with such sentences the first nodes, up to a table, a list or a button, into these. */
+export function fill(place, ...nodes) {
+  const live = place.querySelector(":scope > [role=status]");
+  if (!live) return place.replaceChildren(...nodes);
+  const at = nodes.findIndex(isLong);
+  const end = at < 0 ? nodes.length : at;
+  live.replaceChildren(...nodes.slice(0, end));
+  for (const it of [...place.childNodes]) if (it !== live) it.remove();
+  place.append(...nodes.slice(end));
+  return undefined;
 }
 
 /** Shows an outcome at its place: `done`, `wrong` or `unknown`. A screen reader tells it, since the place is live. */
 export function say(place, kind, ...nodes) {
   place.className = `outcome ${kind}`;
-  place.replaceChildren(...nodes);
+  fill(place, ...nodes);
   // below a form it may be out of sight
   if (kind !== "waiting" && place.closest(".step, .inset")) place.scrollIntoView({ block: "nearest" });
 }
 
 export function quiet(place) {
   place.className = "outcome";
-  place.replaceChildren();
+  fill(place);
 }
 
 /** Says that the office is being asked. */

@@ -222,7 +222,7 @@ def lost(view: View) -> None:
     says(
         "an answer that is lost is told as unknown",
         said,
-        TEXTS["said"]["nothing"],
+        TEXTS["statuses"][-1]["meaning"],
         WORDS["class"]["lost"].format(target="record:2"),
         TEXTS["event"]["stale"],
     )

@@ -95,7 +95,7 @@ def held(office: Office, it: Counted, proxy: Proxy) -> None:
     it.begin()
     it.press("#catalogue-mark")
     it.press("#catalogue-record-hold-choose")
-    says("hold: what it would do is said before", page.seen("#catalogue-record-hold-preview"), "40 records are put on it:", "1 · SITE/1 · Castle Hill, find 1", "40 · SITE/40")
+    says("hold: what it would do is said before", page.seen("#catalogue-record-hold-preview"), "40 records will be put on it:", "1 · SITE/1 · Castle Hill, find 1", "40 · SITE/40")
     for name, value in (("code", "LAW-1"), ("reason", "The dig"), ("by", "Legal office")):
         it.write(f"catalogue_record_hold_{name}", value)
     it.press("#catalogue-record-hold-submit")

@@ -9,6 +9,8 @@ from place import Office, Proxy
 from story import TEXTS, WHO, Story, says
 
 WORDS = TEXTS["event"]
+# what is said where no answer came
+NOTHING = TEXTS["statuses"][-1]["meaning"]
 FORM = "#record-event"
 # the schedules: these parts of each
 PARTS = ("trigger", "count", "offset", "action")
@@ -101,7 +103,7 @@ class View:
 
 def refused(number: int) -> tuple[str, ...]:
     row = TEXTS["refusals"][str(number)]
-    return f'409 [{{"refused":{number}}}]', f"Refusal {number}, {row['name']}", row["meaning"], row["do"]
+    return f"Refusal {number}, {row['name']}", row["meaning"], row["do"]
 
 
 def wrong(view: View) -> None:
@@ -189,7 +191,7 @@ def lost(view: View) -> None:
     view.open(5)
     view.browser.driver.execute_script(NO_ANSWER)
     same("where no answer comes, nothing is sent a second time", view.record("2020-05-31"), 1)
-    unknown = (TEXTS["said"]["nothing"], WORDS["lost"].format(record=5), WORDS["stale"])
+    unknown = (NOTHING, WORDS["lost"].format(record=5), WORDS["stale"])
     says("it is said to be unknown", view.outcome(), *unknown)
     says("and the view is as it was", view.words(), WORDS["none"])
     view.open(5)

@@ -1,6 +1,7 @@
 """Files through the page: 40 are dropped, one of them too large; refusals, the same again, answers that are lost."""
 from __future__ import annotations
 
+import collections
 import hashlib
 import pathlib
 import time
@@ -66,6 +67,14 @@ def digits(text: str) -> str:
     return "".join(part for part in text if part.isdigit())
 
 
+def in_short(count: int) -> str:
+    """A number of bytes as the page shows it: with one digit behind the point where it is below ten of its unit."""
+    size, units = float(count), ["B", "kB", "MB", "GB"]
+    while size >= 1000 and len(units) > 1:
+        size, units = size / 1000, units[1:]
+    return f"{size:.1f} {units[0]}".replace(".0 ", " ") if size < 10 else f"{size:.0f} {units[0]}"
+
+
 class View:
     """The view File, as somebody sees it."""
 
@@ -107,7 +116,15 @@ class View:
         facts = self.browser.driver.execute_script(
             "return Array.from(document.querySelectorAll('#file-totals > div'),"
             " (it) => [it.children[0].textContent, it.children[1].textContent])")
-        return {names[word]: int(number.replace(",", "")) for word, number in facts}
+        # what is 0 is not shown, and bytes are shown in short
+        whole = {names[word]: int(number.replace(",", "")) for word, number in facts if names[word] != "bytes"}
+        return collections.defaultdict(int, whole)
+
+    def size(self) -> str:
+        word = WORDS["totals"]["bytes"]
+        return self.browser.driver.execute_script(
+            "return Array.from(document.querySelectorAll('#file-totals > div'))"
+            ".find((it) => it.children[0].textContent === arguments[0]).children[1].textContent", word)
 
     def file(self) -> int:
         """Presses the button; how many requests were sent."""
@@ -132,7 +149,7 @@ def listed(view: View, files: list[pathlib.Path]) -> None:
     view.drop(files)
     sizes = [size_of(number) for number in range(1, 41)]
     totals = view.totals()
-    same("40 files are dropped: their sizes are told", (totals["count"], totals["bytes"]), (40, sum(sizes)))
+    same("40 files are dropped: their sizes are told", (totals["count"], view.size()), (40, in_short(sum(sizes))))
     same("one of them is too large", (totals["large"], totals["ready"], totals["filed"]), (1, 39, 0))
     says("which is said, and what to do", view.browser.seen("#file-large"), "262,144", WORDS["tooLargeDo"])
     judge("where large files are kept is not asked yet", not view.browser.one("#file-place").is_displayed())
@@ -291,7 +308,7 @@ def lost(view: View, folder: pathlib.Path) -> None:
     it.driver.execute_script(LOST, 1)
     same("two requests are sent, and none a second time", view.file(), 2)
     same("what is known of them", view.counts(), {"added": "2", "unknown": "2", "left": "1"})
-    says("it says what to do", view.outcome(), TEXTS["said"]["nothing"], FILING["retryUnknown"])
+    says("it says what to do", view.outcome(), TEXTS["statuses"][-1]["meaning"], FILING["retryUnknown"])
     same("the rows say so too", view.answers()[2:], [FILING["unknown"]] * 2 + [FILING["left"]])
     same("tried again, without harm", (view.file(), view.counts()), (2, {"added": "1", "same": "2"}))
     same("five records are there, with numbers of their own", len(set(view.answers())), 5)

@@ -145,6 +145,36 @@ def rule(it: Browser, proxy: Proxy, story: Story) -> None:
     says("rule: as many as the forecast said", said, WORDS["rule"]["fall"]["one" if fallen == 1 else "many"].format(count=fallen))
 
 
+def newer(it: Browser, proxy: Proxy, story: Story) -> None:
+    """A schedule that is newer than the catalogue: the page knows its own; of another's it says so, and asks for a tick."""
+    it.open(f"{proxy.page}#plan")
+    it.write(plan_schedule_code="OWN-3", plan_schedule_count="3")
+    it.choose("#plan-schedule-trigger", "added")
+    it.press("#plan-schedule button:not([type])")
+    it.write(plan_rule_class="LET", plan_rule_schedule="OWN-3")
+    it.wait(lambda: it.all("#plan-rule-forecast table"), "no forecast of the page's own schedule comes")
+    judge("rule: the page knows the schedule that it has added", it.all("#plan-rule-forecast .bydue") != [])
+    rule_ = {"trigger": "added", "unit": "years", "count": 4, "offset": "none", "action": "destroy"}
+    town.send(story.office, [{"act": "add-schedule", "day": after(0), "code": "OTHERS-4", **rule_}])
+    it.write(plan_rule_schedule="OTHERS-4")
+    it.wait(lambda: "OTHERS-4" in it.text("#plan-rule-forecast"), "the page says nothing of a schedule that it does not know")
+    says("rule: of one that it does not know it says that there is no forecast", it.seen("#plan-rule-forecast"),
+         "No forecast: schedule OTHERS-4 is newer than the catalogue of ")
+    before = story.posted()
+    it.press("#plan-rule button:not([type])")
+    same("rule: without the tick nothing of it is sent", (story.posted() - before, it.text("#plan-rule-blind-wrong")),
+         (0, TEXTS["fields"]["sureWrong"]))
+    it.press("#plan-rule-blind")
+    it.press("#plan-rule button:not([type])")
+    says("rule: with the tick it is done", it.seen("#plan-rule-outcome"),
+         TEXTS["plan"]["rule"]["done"].format(**{"class": "LET", "schedule": "OTHERS-4"}))
+    it.write(plan_rule_schedule="D-2")
+    it.wait(lambda: "OTHERS-4." in it.text("#plan-rule-forecast"), "the forecast goes by an old schedule")
+    due = [row for row in story.told(LAST) if row["class"] == "LET"]
+    says("rule: a next forecast is of the schedule that the class has now", it.seen("#plan-rule-forecast"),
+         WORDS["rule"]["dues"]["many"].format(count=len(due), schedule="OTHERS-4", **{"class": "LET"}))
+
+
 def pictures(it: Browser, proxy: Proxy) -> None:
     shots(it, "run-forecast", f"{proxy.page}#run")
     shots(it, "hold", f"{proxy.page}#holds?code={town.HELD}")
@@ -163,3 +193,5 @@ def tell(office: Office, proxy: Proxy, browser: Browser, folder: pathlib.Path) -
     lift(browser, proxy, office)
     closing(browser, proxy, story)
     rule(browser, proxy, story)
+    town.renew(proxy, office)
+    newer(browser, proxy, story)

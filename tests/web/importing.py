@@ -1,6 +1,7 @@
 """A sheet through the page: 1,000 rows of a semicolon file in Windows-1252, ten of them wrong, which are corrected."""
 from __future__ import annotations
 
+import collections
 import csv
 import io
 import json
@@ -99,7 +100,8 @@ class View:
         facts = self.browser.driver.execute_script(
             "return Array.from(document.querySelectorAll('#import-totals > div'),"
             " (it) => [it.children[0].textContent, it.children[1].textContent])")
-        return {names[word]: int(number.replace(",", "")) for word, number in facts}
+        # what is 0 is not shown
+        return collections.defaultdict(int, {names[word]: int(number.replace(",", "")) for word, number in facts})
 
     def rows(self) -> list[list[str]]:
         return self.browser.table("#import-table")

@@ -89,21 +89,27 @@ def other(view: View) -> None:
           len({first, second, third, view.place("K-4"), view.place("K-5")}) == 5)
 
 
+def tick(it: Browser) -> None:
+    """Makes the tick of a run, which a refusal leaves."""
+    if not it.one("#run-sure").is_selected():
+        it.press("#run-sure")
+
+
 def resumed(view: View) -> None:
     """The carrying out of a run, which has no body, has a key as well: the same one only until a run is opened."""
     it = view.browser
     view.open("#run")
     for answers in ([(0,)], []):
         it.driver.execute_script("window.answers = arguments[0]", answers)
-        it.press("#run-sure")
+        tick(it)
         it.press("#run-resume button")
     same("keys: a lost carrying out of a run is sent with the same key", len(set(view.keys())), 1)
     it.driver.execute_script("window.answers = [[0]]")
-    it.press("#run-sure")
+    tick(it)
     it.press("#run-resume button")
     it.write(run_open_day=after(0), run_open_by=WHO)
     it.press("#run-open button")
-    it.press("#run-sure")
+    tick(it)
     it.press("#run-resume button")
     keys = view.keys()
     judge("keys: but not once a run was opened since", len(set(keys)) == len(keys) - 1 == 4, str(keys))

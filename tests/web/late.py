@@ -139,11 +139,13 @@ class Form:
         return self.browser.text(f"#{self.day}-late")
 
     def press(self) -> int:
-        """Presses the button, with the tick that a lift and a closing always ask for, and counts what was sent."""
+        """Presses the button, with the tick that a lift, a closing and another schedule ask for, and counts what was sent."""
         before = self.story.posted()
-        tick = {"hold-lift": "#hold-sure", "plan-close": "#plan-close-sure"}.get(self.name)
-        if tick and not self.browser.one(tick).is_selected():
-            self.browser.press(tick)
+        tick = {"hold-lift": "#hold-sure", "plan-close": "#plan-close-sure", "plan-rule": "#plan-rule-blind"}.get(self.name)
+        if tick:
+            self.browser.wait(lambda: self.browser.all(tick), f"{self.name} asks for no tick")
+            if not self.browser.one(tick).is_selected():
+                self.browser.press(tick)
         self.browser.press(f"#{self.name} button:not([type])")
         return self.story.posted() - before
 

@@ -34,6 +34,10 @@ import(new URL("plain/days.js", location.href)).then(({ dueDay }) =>
 """
 
 
+# a closing asks for a tick, and so does another schedule that the page has no forecast of, as without a catalogue
+TICKS = {"plan-close": "#plan-close-sure", "plan-rule": "#plan-rule-blind"}
+
+
 class Plan:
     """The view and its forms."""
 
@@ -57,8 +61,10 @@ class Plan:
     def ask(self, act: dict) -> str:
         """Asks for an act through its form; what is said of it."""
         form = self.write(act)
-        if form == "plan-close":
-            self.browser.press("#plan-close-sure")
+        if form in TICKS:
+            self.browser.wait(lambda: self.browser.all(TICKS[form]), f"{form} asks for no tick")
+            if not self.browser.one(TICKS[form]).is_selected():
+                self.browser.press(TICKS[form])
         self.browser.press(f"#{form} button")
         return self.browser.seen(f"#{form}-outcome")
 
@@ -172,7 +178,6 @@ def refused(plan: Plan) -> None:
         says(
             f"plan: {act['act']} refused {number} is said in words",
             plan.ask(act),
-            f'409 [{{"refused":{number}}}]',
             f"Refusal {number}, {row['name']}",
             row["meaning"],
             row["do"],

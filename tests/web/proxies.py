@@ -43,7 +43,8 @@ def members(browser: Browser, proxy: Proxy) -> None:
         browser.write(hold_place_code="H-1", hold_place_reason="A lawsuit", hold_place_by="Legal office")
         browser.press("#hold-place button:not([type])")
         told = browser.seen("#hold-place-outcome")
-        says(f"a {status} {word} of a member is said in words", told, "The office said:", row["meaning"], row["do"])
+        says(f"a {status} {word} of a member is said in words", told, row["meaning"], row["do"])
+        says(f"a {status} {word} of a member: whose answer it is, behind a summary", browser.text("#hold-place-outcome"), "The office said:")
         same(f"a {status} {word}: whether it is told as unknown", TEXTS["holds"]["lostPlace"] in told, word not in undone)
         same(f"a {status} {word}: whether it is told that nothing was done", "nothing was done" in told, word in undone)
         wanted = "wrong" if word in undone else "unknown"

@@ -48,7 +48,9 @@ class Acts(View):
         script = ("return Array.from(document.querySelectorAll('#import-totals > div'),"
                   " (it) => [it.children[0].textContent, it.children[1].textContent])")
         names = {word: name for name, word in PART["totals"].items()}
-        return {names[word]: number.replace(",", "") for word, number in self.browser.driver.execute_script(script)}
+        # what is 0 is not shown
+        zeros = dict.fromkeys(PART["totals"], "0")
+        return zeros | {names[word]: number.replace(",", "") for word, number in self.browser.driver.execute_script(script)}
 
     def kind(self) -> str:
         script = "const it = document.getElementById('import-kind'); return it.options[it.selectedIndex].text"

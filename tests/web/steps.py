@@ -118,8 +118,6 @@ def decided(town: Town) -> None:
         csv.writer(sheet).writerows([*row, word] for row, word in zip(rows, words, strict=True))
     town.open("import")
     town.it.files("#import-choose", [file])
-    town.shown("#import-kind")
-    town.it.choose("#import-kind", "confirm")
     town.shown("#import-column-by")
     town.it.choose("#import-column-by", "same")
     town.it.write("import_same_by", WHO)
@@ -282,7 +280,6 @@ def new_law(town: Town) -> None:
     town.it.choose("#plan-schedule-trigger", "added")
     town.it.write("plan_schedule_count", "40")
     town.it.press("#plan-schedule button:not([type])")
-    catalogue.renew(town.proxy, town.office)
     town.it.write("plan_rule_class", "SITES")
     town.it.write("plan_rule_schedule", "SITES-40")
     forecast = lambda: town.it.browser.all("#plan-rule-forecast table")
@@ -304,7 +301,7 @@ def own_rule(town: Town) -> None:
 TASKS: list[tuple[str, Callable[[Town], None], int]] = [
     ("what is overdue", overdue, 1),
     ("a due list to a department", department, 2),
-    ("its decisions come back", decided, 5),
+    ("its decisions come back", decided, 4),
     (f"confirm {LETTERS + PERMITS} that are due", quarter, 3),
     ("a run and its certificate", run, 5),
     ("a certificate for the auditor, checked", auditor, 3),

@@ -139,7 +139,7 @@ class Story:
         it.press("#due-submit")
         same("confirm: one request", self.posted() - sent, 1)
         row = TEXTS["refusals"]["15"]
-        says("confirm: a 409 is told in words", it.seen("#due-answer"), "Confirmed: 1 of 2. Refused: 1.", '409 [{"done":true},{"refused":15}]', "Refusal 15, NotDue", row["meaning"], row["do"], "15")
+        self.success("confirm: a 409 is told in words", "#due-answer", '409 [{"done":true},{"refused":15}]', "Confirmed: 1 of 2. Refused: 1.", "Refusal 15, NotDue", row["meaning"], row["do"], "15")
         same("confirm: the list is read anew", self.due_table(), self.due_cells(self.told("/due/2022-05-02")))
         same("confirm: record 8 is confirmed", self.told("/records/8")["confirmed"], {"action": "destroy", "by": WHO, "day": "2021-12-31", "due": "2019-01-30"})
         it.write(due_confirm_day="2022-05-02")
@@ -156,7 +156,7 @@ class Story:
         same("confirm: each of the list is confirmed", ([row["confirmed"] for row in rows], self.due_table()), ([True] * 22, self.due_cells(rows)))
 
     def success(self, name, place, raw, *words):
-        """A success is said in words; the answer itself is there, but not seen until somebody asks for it."""
+        """An outcome is said in words; the answer itself is there, but not seen until somebody asks for it."""
         says(name, self.browser.seen(place), *words)
         judge(f"{name}: the answer itself is behind a summary", raw in self.browser.text(place) and raw not in self.browser.seen(place), self.browser.text(place))
 
@@ -170,7 +170,7 @@ class Story:
         self.success(f"run {number}: it is open", "#run-open-outcome", f'200 [{{"number":{number}}}]', f"Run {number} is open.")
         it.press("#run-open button")
         row = TEXTS["refusals"]["17"]
-        says(f"run {number}: a second one is refused in words", it.seen("#run-open-outcome"), '409 [{"refused":17}]', "Refusal 17, RunOpen", row["meaning"], row["do"])
+        self.success(f"run {number}: a second one is refused in words", "#run-open-outcome", '409 [{"refused":17}]', "Refusal 17, RunOpen", row["meaning"], row["do"])
         it.write(run_number=str(number))
         it.press("#run-form button")
         missing = TEXTS["run"]["notClosed"].format(number=number)
@@ -183,7 +183,7 @@ class Story:
         same(f"run {number}: its counts are those of its certificate", list(it.facts("#run-resume-outcome").values()), counts)
         it.press("#run-sure")
         it.press("#run-resume button")
-        says(f"run {number}: nothing is open any more", it.seen("#run-resume-outcome"), '409 {"refused":18}', "Refusal 18, NoRun", TEXTS["refusals"]["18"]["meaning"])
+        self.success(f"run {number}: nothing is open any more", "#run-resume-outcome", '409 {"refused":18}', "Refusal 18, NoRun", TEXTS["refusals"]["18"]["meaning"])
         it.open(f"{self.proxy.page}#run?number={number}")
         says(f"run {number}: it is found by its number", it.seen("#run-outcome"), f"Run {number} is closed. It was opened on {day} by {WHO}")
         it.press("#run-outcome a")
@@ -269,26 +269,27 @@ class Story:
         it = self.browser
         it.go("#holds")
         it.write(**{f"hold_{form}_{name}": value for name, value in fields.items()})
-        if form == "lift":
+        # a refusal leaves the tick
+        if form == "lift" and not it.one("#hold-sure").is_selected():
             it.press("#hold-sure")
         it.press(f"#hold-{form} button:not([type])")
         says(f"holds: {form}: {outcome}", it.seen(f"#hold-{form}-outcome"), *words)
 
     def holds(self):
         it = self.browser
-        refused = lambda number: (f'409 [{{"refused":{number}}}]', f"Refusal {number}, ", TEXTS["refusals"][str(number)]["meaning"], TEXTS["refusals"][str(number)]["do"])
+        refused = lambda number: (f"Refusal {number}, ", TEXTS["refusals"][str(number)]["meaning"], TEXTS["refusals"][str(number)]["do"])
         self.hold("place", "done", "Hold H-2 is placed.", day="2022-06-01", code="H-2", reason="A second lawsuit", by="Legal office")
         same("holds: the form for its target has its code then", it.one("#hold-on-code").get_attribute("value"), "H-2")
         self.hold("place", "refused", *refused(4))
         it.choose("#hold-on-kind", "record")
-        self.hold("on", "done", "record:20 is on hold H-2.", day="2022-06-01", target="20")
+        self.hold("on", "done", "On hold H-2 now: record 20", day="2022-06-01", target="20")
         self.hold("on", "refused", *refused(4))
         it.open(f"{self.proxy.page}#record?number=20")
         says("holds: the record is held by it", it.seen("#record-words"), "Hold H-2 covers it")
         it.press("#record-words a[href*=holds]")
         same("holds: its link brings the code along", [it.one(f"#hold-{form}-code").get_attribute("value") for form in ("on", "off", "lift")], ["H-2"] * 3)
         it.choose("#hold-off-kind", "record")
-        self.hold("off", "done", "record:20 is off hold H-2.", day="2022-06-01", target="20")
+        self.hold("off", "done", "No longer on hold H-2: record 20", day="2022-06-01", target="20")
         self.hold("off", "refused", *refused(5))
         self.hold("lift", "done", "Hold H-2 is lifted.", day="2022-06-02")
         self.hold("lift", "refused", *refused(12))
@@ -316,7 +317,7 @@ class Story:
         it.open(f"{self.proxy.page}#record?number=20")
         it.press("#record-save")
         row = TEXTS["faults"]["33"]
-        says("a content that is not its record's is a 503 that is told in words", it.seen("#record-saved"), '503 {"fault":33}', "Fault 33", row["meaning"], row["do"])
+        self.success("a content that is not its record's is a 503 that is told in words", "#record-saved", '503 {"fault":33}', "Fault 33", row["meaning"], row["do"])
         self.content_503 = self.office.ask("GET", "/records/20/content")
         self.office.stop()
         for end in ("", "-wal", "-shm"):
@@ -343,8 +344,8 @@ class Story:
         sent = self.posted()
         it.press("#due-submit")
         told, row = it.seen("#due-answer"), TEXTS["faults"]["31"]
-        says("a fault that stops the acts is a 503 that is told in words", told, "503 ", "Fault 31", row["meaning"], row["do"], "A fault stopped it.", "is unknown", "those after it were not.")
-        says("then the office has ended, which the list tells", it.seen("#due-outcome"), "The server said: 502", TEXTS["proxy"]["502"]["meaning"])
+        says("a fault that stops the acts is a 503 that is told in words", told, "Fault 31", row["meaning"], row["do"], "A fault stopped it.", "is unknown", "those after it were not.")
+        says("then the office has ended, which the list tells", it.seen("#due-outcome"), TEXTS["proxy"]["502"]["meaning"])
         judge("and that without a page of nginx", "<" not in it.text("#due-outcome"), it.text("#due-outcome"))
         says("and that the list is older", told, TEXTS["due"]["stale"])
         same("nothing was sent a second time", self.posted() - sent, 1)

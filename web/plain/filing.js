@@ -52,6 +52,19 @@ export function wrongOf(name, value) {
   return takes(value) ? "" : wrong;
 }
 
+/**
+ * What somebody should look at in the day on which a record originated: that it has not come, or is after the day of
+ * filing. The text that says it, with its values, or null.
+ * @param {string} originated
+ * @param {string} now today
+ * @param {string} day that of filing
+ */
+export function lookAtDay(originated, now, day) {
+  if (!isDay(originated)) return null;
+  if (originated > now) return ["sheetActs.look.future", { today: now }];
+  return isDay(day) && originated > day ? ["file.afterFiling", { day }] : null;
+}
+
 /** What is wrong with the values of each record, by its columns. No two records have the same ref. */
 export function wrongsOf(all) {
   const seen = new Set();

@@ -4,6 +4,8 @@ import { asking, byId, failed, made, paragraph, say, told, translate } from "../
 import { fatesOf } from "../plain/outcomes.js";
 import { forgetReason, reasonFields, senderOf } from "../reasons.js";
 import { t } from "../texts.js";
+import { markMissing } from "./no_such.js";
+import { wordsOfTarget } from "./targets.js";
 
 /**
  * @typedef {object} ActForm
@@ -13,6 +15,7 @@ import { t } from "../texts.js";
  * @property {Object<string, string>} fields the kind of each field, by its name
  * @property {function(Object<string, any>): object} act the act of these values; a field that was left empty is null
  * @property {string[]} [clears] the fields that are empty again once the act is done
+ * @property {string} [advice] the text of a further hint
  * @property {string} [sure] the text of a tick that the form asks for, as of an act that cannot be undone
  * @property {function(object, HTMLElement): Promise<string | null>} [before] what was shown of what the act is for, as a
  *   text; null if that has changed, which it says at this place, and then nothing is sent
@@ -27,13 +30,14 @@ function tickOf(id, key) {
 }
 
 /** The parts of a form, without what is around it. */
-export function partsOf({ id, kind, words, fields, sure }) {
+export function partsOf({ id, kind, words, fields, advice, sure }) {
   const places = Object.entries(fields).map(([name, kind]) => made("div", { "data-field": kind, id: `${id}-${name}` }));
   for (const place of places) field(place);
-  const hint = (name) => made("p", { class: "hint", "data-text": `${words}.${name}` });
+  const hint = (key) => made("p", { class: "hint", "data-text": key });
   const button = made("button", { "data-text": `${words}.submit`, ...(sure && { class: "grave" }) });
   const more = [...reasonFields(id, [kind]), ...(sure ? [tickOf(id, sure)] : [])];
-  return [hint("about"), hint("unrecorded"), ...places, ...more, button];
+  const hints = [`${words}.about`, `${words}.unrecorded`, ...(advice ? [advice] : [])].map(hint);
+  return [...hints, ...places, ...more, button];
 }
 
 /** The values of a form by the names of its fields. */
@@ -41,13 +45,16 @@ function named({ id, fields }, values) {
   return Object.fromEntries(Object.keys(fields).map((name) => [name, values[`${id}-${name}`] || null]));
 }
 
+/** The values of an act for a text: what it is for in words. */
+const inWords = async (act) => (act.target ? { ...act, target: await wordsOfTarget(act.target) } : act);
+
 /** Says what came of an act: `done`, `refused`, `undone` or `unknown`. */
-function sayFate(place, words, act, answer) {
+async function sayFate(place, words, act, answer) {
   const { answers, end } = fatesOf(answer, 1);
   const [given] = answers;
   const isDone = Boolean(given?.done || given?.number);
-  if (end === "unknown") say(place, "unknown", ...told(answer), paragraph(t(`${words}.lost`, act)));
-  else if (isDone) say(place, "done", paragraph(t(`${words}.done`, { ...act, number: given.number })), ...told(answer));
+  if (end === "unknown") say(place, "unknown", ...told(answer), paragraph(t(`${words}.lost`, await inWords(act))));
+  else if (isDone) say(place, "done", paragraph(t(`${words}.done`, { ...(await inWords(act)), number: given.number })), ...told(answer));
   else failed(place, answer);
   if (end !== "answered") return end;
   return isDone ? "done" : "refused";
@@ -60,7 +67,9 @@ async function ask(description, values) {
   asking(place);
   const seen = before ? await before(act, place) : "";
   if (seen === null) return;
-  const fate = sayFate(place, words, act, await senderOf(form, seen)([act]));
+  const answer = await senderOf(form, seen)([act]);
+  const fate = await sayFate(place, words, act, answer);
+  if (fate === "refused") await markMissing(form, fatesOf(answer, 1).answers[0].refused);
   // a refusal leaves the form as it is, with its ticks and its reason
   if (["done", "unknown"].includes(fate)) untick(form);
   if (fate === "done") {

@@ -1,6 +1,6 @@
 // The confirmation of what is marked in a list: one request, and what came of each of its acts.
 import { untick } from "../fields.js";
-import { asking, failed, link, made, paragraph, quiet, say, tableOf, told } from "../page.js";
+import { asking, details, failed, link, made, paragraph, quiet, say, tableOf, told } from "../page.js";
 import { MOST_BYTES, bodyOf, bytesOf, confirm, fitting } from "../plain/acts.js";
 import { CONFIRMED_FOR } from "../plain/lists.js";
 import { fatesOf, jsonOf } from "../plain/outcomes.js";
@@ -43,7 +43,7 @@ function tellFate(place, answer, acts) {
   const counts = { done, count, refused: refusals };
   if (end === "answered" && !refused.size) return say(place, "done", paragraph(t("due.done", counts)), ...told(answer));
   if (end === "answered") {
-    return say(place, "wrong", paragraph(t("due.partly", counts)), ...table, ...told(answer).slice(0, 1));
+    return say(place, "wrong", paragraph(t("due.partly", counts)), ...table, details(answer));
   }
   if (end === "undone") return failed(place, answer);
   const stopped = jsonOf(answer)?.fault && acts[answers.length];

@@ -4,10 +4,11 @@ import { asking, byId, grouped, made, paragraph, plural, quiet, say } from "../p
 import { addRecord, bytesOf } from "../plain/acts.js";
 import { digestOf } from "../plain/certificates.js";
 import {
-  MEMBERS, MOST_CONTENT, MOST_FILES, NO_AGGREGATION, actBytes, base64, forAll, sizes, wrongOf, wrongsOf,
+  MEMBERS, MOST_CONTENT, MOST_FILES, NO_AGGREGATION, actBytes, base64, forAll, lookAtDay, sizes, wrongOf, wrongsOf,
 } from "../plain/filing.js";
-import { isText, today } from "../plain/forms.js";
+import { isDay, isText, today } from "../plain/forms.js";
 import { visible } from "../plain/marks.js";
+import { hasBirthday } from "../plain/persons.js";
 import { batches, isSettled } from "../plain/sending.js";
 import { manifestOf } from "../plain/vault.js";
 import { askReason, forgetReason } from "../reasons.js";
@@ -16,7 +17,7 @@ import { filesIn, placed, saidBy } from "./file_folders.js";
 import { isLeftOut, isVaulted, rowOf, showAnswer, showHead, showValues } from "./file_rows.js";
 import * as one from "./file_one.js";
 import * as vault from "./file_vault.js";
-import { addPanel, guardPage, onDrop, sayFates, send, showSums, whereAggregation } from "./filing.js";
+import { addPanel, guardPage, onDrop, sayFates, send, showSubmit, showSums, whereAggregation, whoHas } from "./filing.js";
 
 /** The files that are listed, in their order; what is written for all of them is in the fields. */
 let entries = [];
@@ -58,14 +59,18 @@ function showTotals() {
   const ways = { large: large - manifests - vaulted, ...(vaulted ? { vaulted } : { manifests }) };
   showSums("file", { count, bytes, ...ways, filed, ready: ready.length, requests: batches(ready).length });
   byId("file-caption").textContent = t("file.caption", { count: grouped(count) });
-  const tried = ready.some(({ fate }) => fate);
-  const key = tried ? "file.again" : "file.submit";
   one.offer(ready);
-  const submit = one.isOne() ? one.submitWords(ready) : t(key, { count: grouped(ready.length) });
-  if (!isSending) byId("file-submit").textContent = submit;
+  if (!isSending) showSubmit("file", submitWords(ready, filed), ready.length > 0);
   byId("file-off-filed").hidden = filed === 0;
   byId("file-place").hidden = !entries.some((entry) => entry.hasManifest);
   showLarge(entries.filter(isLeftOut).length);
+}
+
+/** The words of the button: how many files are to be filed, or that all are. */
+function submitWords(ready, filed) {
+  if (!ready.length && filed) return t("file.allFiled");
+  if (one.isOne()) return one.submitWords(ready);
+  return t(ready.some(({ fate }) => fate) ? "file.again" : "file.submit", { count: grouped(ready.length) });
 }
 
 /** Notes how large the act of each file is, and which of them goes alone. */
@@ -91,12 +96,25 @@ function showLarge(count) {
   else quiet(place);
 }
 
+/** What somebody should look at in the values of a record, in words. */
+function looksOf({ title, originated }) {
+  const look = (name, text, words) =>
+    t("import.lookAt", { what: `${t(`file.columns.${name}`)}: ${t("import.quoted", { text: visible(text) })} ${words}` });
+  const day = lookAtDay(originated, today(), byId("file-send-day").value.trim());
+  const isBirthday = hasBirthday(title, isDay(originated) ? originated : today());
+  return [
+    ...(day ? [look("originated", originated, t(...day))] : []),
+    ...(isBirthday ? [look("title", title, t("import.look.birthday"))] : []),
+  ];
+}
+
 /** Shows the list, once there is one. */
 function refresh() {
   const shared = common();
   for (const entry of entries) {
-    showValues(entry, valuesOf(entry, shared));
-    showAnswer(entry);
+    const values = valuesOf(entry, shared);
+    showValues(entry, values);
+    showAnswer(entry, looksOf(values));
   }
   byId("file-list").hidden = entries.length === 0;
   showTotals();
@@ -114,6 +132,7 @@ function edited(entry, name, value) {
   forgetUnsent();
   entry.own[name] = value.trim();
   mark(entry.inputs[name], "");
+  showAnswer(entry, looksOf(valuesOf(entry)));
 }
 
 /** Files a manifest in place of a large file, or leaves it out again. */
@@ -224,6 +243,16 @@ function markRows(ready) {
   return first;
 }
 
+/** The refusal that says that a ref is taken. */
+const EXISTS = 4;
+
+/** Finds which record has the ref of each file that was refused for it. */
+async function nameTaken(ready) {
+  for (const entry of ready) {
+    entry.taken = entry.fate?.refusal === EXISTS ? await whoHas(valuesOf(entry).ref) : null;
+  }
+}
+
 async function fileAll(values, ready) {
   const place = byId("file-send-outcome");
   if (!ready.length) return say(place, "wrong", paragraph(t("file.nothing")));
@@ -250,6 +279,7 @@ async function fileAll(values, ready) {
   // there is less room by now
   if (items[0].isAlone || ready.some(isVaulted)) await vault.ask();
   isSending = false;
+  await nameTaken(ready);
   refresh();
   if (items.every(isSettled)) {
     untick(byId("file-send"));
@@ -290,6 +320,7 @@ export function start() {
     byId("file-choose").focus();
   });
   byId("file-one-tick").addEventListener("change", refresh);
+  for (const kind of ["input", "change"]) byId("file-send-day").addEventListener(kind, () => isSending || refresh());
   byId("file-stop").addEventListener("click", () => stop.abort());
   onSubmit(byId("file-send"), fileAll, () => entries.filter(isToBeFiled));
 }

@@ -76,10 +76,12 @@ function words(entry) {
   return made("span", { class: "hint" }, t(`file.${kindOf(entry)}${kindOf(entry) ? "Ready" : "ready"}`));
 }
 
-/** Shows what became of a file. One that is filed is not written into any more. */
-export function showAnswer(entry) {
+/** Shows what became of a file, and what somebody should look at. One that is filed is not written into any more. */
+export function showAnswer(entry, looks = []) {
+  const taken = entry.taken && entry.fate?.kind === "refused" ? [entry.taken] : [];
+  const notes = looks.map((it) => made("p", { class: "fate unknown" }, it));
   const choice = mayBeReplaced(entry) && !isSettled(entry) ? [entry.hasManifest ? entry.leave : entry.replace] : [];
-  entry.answer.replaceChildren(words(entry), ...choice, entry.off);
+  entry.answer.replaceChildren(...taken, words(entry), ...notes, ...choice, entry.off);
   const fixed = isSettled(entry) || isLeftOut(entry);
   for (const input of Object.values(entry.inputs)) input.readOnly = fixed;
   entry.row.classList.toggle("fixed", fixed);

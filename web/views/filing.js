@@ -1,6 +1,8 @@
 // What the views File and Import share: acts are sent with their progress, and what became of each is said in words.
+import { numbered, numberOf, refresh } from "../catalogue.js";
 import { field } from "../fields.js";
-import { byId, factsOf, grouped, link, made, paragraph, plural, say, sentence, told, translate } from "../page.js";
+import { byId, factsOf, grouped, inShort, link, made, paragraph, plural, say, sentence, told, translate } from "../page.js";
+import { visible } from "../plain/marks.js";
 import { counted, isSettled, sendAll } from "../plain/sending.js";
 import { whyNot } from "../plain/vault.js";
 import { senderOf } from "../reasons.js";
@@ -30,16 +32,34 @@ export function fateWords(fate, what = "", part = "filing") {
   return made("span", { class: "fate wrong" }, strong, ` ${t("said.meaning", row)} ${t("said.do", row)}`);
 }
 
+/** Which record has a ref that was refused as taken, in words, by the catalogue; null where it does not say so. */
+export async function whoHas(ref) {
+  if ((await refresh()) === null) return null;
+  const number = await numberOf("records", ref);
+  if (number === undefined) return null;
+  const file = await numbered("aggregations", (await numbered("records", number))[3]);
+  const parts = { ref: visible(ref), record: link(`#record?number=${number}`, number), file: visible(file?.ref ?? "") };
+  return made("p", { class: "fate wrong" }, ...sentence(file ? "file.takenIn" : "file.taken", parts));
+}
+
 /** Where the number of an aggregation comes from, as nodes: the views are links, or their names. */
 export function whereAggregation(isLinked = true) {
   const view = (name) => (isLinked ? link(`#${name}`, t(`${name}.title`)) : t(`${name}.title`));
   return sentence("file.whereAggregation", { plan: view("plan"), catalogue: view("catalogue") });
 }
 
-/** The sums of the view `name`, each with its word, from a part of the texts. */
+/** The sums of the view `name` that are not 0, each with its word, from a part of the texts; of bytes a short form. */
 export function showSums(name, sums, part = name) {
-  const words = ([sum, number]) => [made("dt", {}, t(`${part}.totals.${sum}`)), made("dd", {}, grouped(number))];
-  byId(`${name}-totals`).replaceChildren(...Object.entries(sums).map((it) => made("div", {}, ...words(it))));
+  const figure = (sum, number) => (sum === "bytes" ? inShort(number) : grouped(number));
+  const words = ([sum, number]) => [made("dt", {}, t(`${part}.totals.${sum}`)), made("dd", {}, figure(sum, number))];
+  const shown = Object.entries(sums).filter(([, number]) => number !== 0);
+  byId(`${name}-totals`).replaceChildren(...shown.map((it) => made("div", {}, ...words(it))));
+}
+
+/** The words of the button that sends: once nothing is left it is not the one to press next. */
+export function showSubmit(name, words, isLeft) {
+  byId(`${name}-submit`).textContent = words;
+  byId(`${name}-submit`).classList.toggle("quiet", !isLeft);
 }
 
 /** The form that sends, with room for its progress and for what came of it: the first part of the view's last panel. */

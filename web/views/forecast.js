@@ -1,5 +1,5 @@
 // What all forecasts share: a place that is filled while somebody writes, and the words that it is a forecast.
-import { made, paragraph, say } from "../page.js";
+import { fill, made, paragraph, say, sentencesOf } from "../page.js";
 import { t } from "../texts.js";
 
 /** So many milliseconds after the last key a forecast is made. */
@@ -7,7 +7,7 @@ const STILL = 300;
 
 /** A place for a forecast in a form, before its button. A screen reader reports what appears there. */
 export function placeIn(form, id) {
-  const place = made("div", { id, class: "forecast", role: "status" });
+  const place = made("div", { id, class: "forecast" }, sentencesOf());
   form.querySelector("button:not([type=button])").before(place);
   return place;
 }
@@ -15,25 +15,41 @@ export function placeIn(form, id) {
 /** Shows a forecast, which says that it is one; nothing, where there is none. */
 export function show(place, ...nodes) {
   place.removeAttribute("aria-busy");
-  place.replaceChildren(...(nodes.length ? [made("p", { class: "label" }, t("forecast.is")), ...nodes] : []));
+  place.classList.remove("result");
+  fill(place, ...(nodes.length ? [made("p", { class: "label" }, t("forecast.is")), ...nodes] : []));
+}
+
+function showNone(place, ...nodes) {
+  place.removeAttribute("aria-busy");
+  fill(place, ...nodes);
+}
+
+/** Says why there is no forecast of what is written, and asks for a tick in its place. */
+export function noForecast(form, words, written) {
+  const box = made("input", { type: "checkbox", id: `${form.id}-blind`, "aria-describedby": `${form.id}-blind-wrong` });
+  const label = made("label", { for: box.id }, t("forecast.blind"));
+  const tick = made("div", { class: "sure" }, box, label, made("strong", { class: "wrong", id: `${box.id}-wrong` }));
+  return { seen: JSON.stringify([words, ...written]), nodes: [paragraph(words, "grave"), tick], isNone: true };
 }
 
 /** Shows what an act did in the place of what it would do. */
 function showResult(place, ...nodes) {
   place.removeAttribute("aria-busy");
-  place.replaceChildren(made("p", { class: "label" }, t("forecast.result")), ...nodes);
+  place.classList.add("result");
+  fill(place, made("p", { class: "label" }, t("forecast.result")), ...nodes);
 }
 
 /** Says that a forecast is being made. */
 export function wait(place) {
   place.setAttribute("aria-busy", "true");
-  if (!place.hasChildNodes()) place.replaceChildren(paragraph(t("page.asking")));
+  if (!place.textContent) fill(place, paragraph(t("page.asking")));
 }
 
 /**
  * @typedef {object} Told
  * @property {Node[]} nodes what is shown; nothing where what is written is not whole
  * @property {string} seen what it says, as a text: if that differs later, so does what the act would do
+ * @property {boolean} [isNone] whether it says why there is no forecast
  */
 
 /**
@@ -48,14 +64,20 @@ export function forecastOf(form, place, make) {
   let turn = 0;
   let later = 0;
   let seen = null;
+  let isForecast = false;
   const renew = async (result = []) => {
     const mine = ++turn;
     clearTimeout(later);
     wait(place);
     const told = await make();
     if (mine !== turn) return seen;
+    const isSame = isForecast && !result.length && Boolean(told?.seen) && told.seen === seen;
     seen = told?.seen ?? null;
-    if (result.length) showResult(place, ...result);
+    isForecast = !result.length;
+    // a tick in what is shown stays if that is still so
+    if (isSame) place.removeAttribute("aria-busy");
+    else if (result.length) showResult(place, ...result);
+    else if (told?.isNone) showNone(place, ...told.nodes);
     else show(place, ...(told?.nodes ?? [paragraph(t("forecast.failed"))]));
     return seen;
   };

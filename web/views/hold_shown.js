@@ -43,14 +43,16 @@ export async function show(code) {
   const hold = await holdOf(code);
   const nodes = hold ? await wordsOf(hold) : [paragraph(t("holds.unseen")), made("p", {}, dueLink(code))];
   if (mine !== asked) return;
-  place.replaceChildren(made("h2", {}, t("holds.heading", { hold: code })), ...nodes);
+  place.replaceChildren(made("h2", { id: "hold-heading" }, t("holds.heading", { hold: code })), ...nodes);
   place.hidden = false;
+  byId("hold-status").textContent = hold ? t("holds.isShown", { hold: code }) : t("holds.unseen");
 }
 
 /** Shows no hold. */
 export function showNone() {
   asked += 1;
   byId("hold-told").hidden = true;
+  byId("hold-status").textContent = "";
 }
 
 // ---- what lifting it would do
@@ -98,9 +100,10 @@ async function make() {
 
 /** Puts the place of the hold over the forms, and that of the forecast into the form that lifts. */
 export function start() {
-  const place = made("article", { id: "hold-told", class: "sheet hold-told", role: "status" });
+  const place = made("article", { id: "hold-told", class: "sheet hold-told", "aria-labelledby": "hold-heading" });
   place.hidden = true;
-  document.querySelector("#holds > .steps").before(place);
+  const status = made("p", { id: "hold-status", class: "inner", role: "status" });
+  document.querySelector("#holds > .steps").before(status, place);
   const form = byId("hold-lift");
   lifting = forecastOf(form, placeIn(form, "hold-lift-forecast"), make);
 }

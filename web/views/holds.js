@@ -8,6 +8,8 @@ import { askReason, forgetReason, senderOf } from "../reasons.js";
 import { t } from "../texts.js";
 import * as placing from "./hold_place.js";
 import * as shown from "./hold_shown.js";
+import { markMissing } from "./no_such.js";
+import { wordsOfTarget } from "./targets.js";
 
 const targetOf = (values, form) => `${byId(`${form}-kind`).value}:${values[`${form}-target`]}`;
 
@@ -26,12 +28,12 @@ function carry(code, forms) {
 const FORMS = {
   "hold-on": {
     act: (values) => holdOn(values["hold-on-day"], values["hold-on-code"], targetOf(values, "hold-on")),
-    done: (act) => t("holds.isOn", act),
+    done: async (act) => t("holds.isOn", { ...act, target: await wordsOfTarget(act.target) }),
     lost: "holds.lostOn",
   },
   "hold-off": {
     act: (values) => holdOff(values["hold-off-day"], values["hold-off-code"], targetOf(values, "hold-off")),
-    done: (act) => t("holds.isOff", act),
+    done: async (act) => t("holds.isOff", { ...act, target: await wordsOfTarget(act.target) }),
     lost: "holds.lostOff",
   },
   "hold-lift": {
@@ -57,9 +59,10 @@ async function ask(name, values) {
   const answer = await senderOf(form)([asked]);
   const { answers, end } = fatesOf(answer, 1);
   if (end === "unknown") say(place, "unknown", ...told(answer), paragraph(t(lost)));
-  else if (answers[0]?.done) say(place, "done", paragraph(done(asked)), ...told(answer));
+  else if (answers[0]?.done) say(place, "done", paragraph(await done(asked)), ...told(answer));
   else failed(place, answer);
   const isDone = end === "answered" && Boolean(answers[0].done);
+  if (answers[0]?.refused) await markMissing(form, answers[0].refused);
   if (isDone || end === "unknown") untick(form);
   if (isDone) forgetReason(form);
   return isDone ? after?.(asked) : null;

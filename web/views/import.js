@@ -11,7 +11,7 @@ import { RECORDS, formOf } from "../sheet/kinds.js";
 import { glimpsed, turned } from "../sheet/turning.js";
 import { Unreadable } from "../sheet/unreadable.js";
 import { t } from "../texts.js";
-import { addPanel, onDrop, sayFates, send, showSums, whereAggregation } from "./filing.js";
+import { addPanel, onDrop, sayFates, send, showSubmit, showSums, whereAggregation } from "./filing.js";
 import * as acts from "./import_acts.js";
 import * as documents from "./import_documents.js";
 import * as reading from "./import_reading.js";
@@ -129,6 +129,7 @@ function refresh() {
   Object.assign(sheet.options, { today: today(), day: byId("import-send-day").value });
   sheet.numbers = new Map();
   sheet.found = read();
+  if (sheet.found) acts.lookForBirthdays(rows(), sheet.found.columns);
   for (const row of rows()) row.item = itemOf(row);
   const there = headerOf();
   reading.show(sheet.options, there.header, there);
@@ -146,7 +147,8 @@ function refresh() {
 async function kindChanged() {
   sheet.options = { ...sheet.options, columns: {}, set: {} };
   await findKind();
-  sheet.options = { ...sheet.options, ...reading.recalled(headerOf().header, sheet.kind), days: sheet.options.days };
+  const { columns, set } = reading.recalled(headerOf().header, sheet.kind);
+  Object.assign(sheet.options, { columns, set: acts.sameValues(sheet.kind, set) });
   refresh();
 }
 
@@ -200,7 +202,7 @@ async function take([file], folders = []) {
 /** Takes up what was said of an earlier sheet with the same names: the order of days, where only that decides it. */
 function recall() {
   const { columns, set, days } = reading.recalled(headerOf().header, sheet.kind);
-  sheet.options = { ...sheet.options, columns, set };
+  sheet.options = { ...sheet.options, columns, set: acts.sameValues(sheet.kind, set) };
   try {
     turned(sheet.bytes, sheet.options);
   } catch (why) {
@@ -226,8 +228,9 @@ function showTotals() {
   const sums = { count: rows().length, ready: ready.length, wrong, ...passed, empty, filed, requests };
   showSums("import", sums, isActs ? acts.PART : "import");
   const submit = isActs ? `${acts.PART}.submit` : "import.submit";
-  const key = ready.some(({ fate }) => fate) ? "file.again" : submit;
-  if (!isSending) byId("import-submit").textContent = t(key, { count: grouped(ready.length) });
+  const none = filed ? "import.allDone" : submit;
+  const key = ready.some(({ fate }) => fate) ? "file.again" : ready.length ? submit : none;
+  if (!isSending) showSubmit("import", t(key, { count: grouped(ready.length) }), ready.length > 0);
   const refused = rows().filter(preview.isRefused).length;
   byId("import-save").hidden = refused === 0;
   byId("import-save").textContent = plural("import.save", refused);

@@ -5,6 +5,7 @@ import { ENCODINGS } from "../sheet/bytes.js";
 import { plain } from "../sheet/columns.js";
 import { ORDERS } from "../sheet/days.js";
 import { RECORDS, formOf } from "../sheet/kinds.js";
+import { signedBy } from "../rights.js";
 import { SEPARATORS, letters } from "../sheet/rows.js";
 import { t } from "../texts.js";
 import { columnWord } from "./import_acts.js";
@@ -19,6 +20,8 @@ const APART = ["ref", "content", "code", "digest", "target", "record", "act"];
 
 /** The columns of what each row is. */
 let form = formOf(RECORDS);
+/** Those that somebody chooses: who acts is not among them where a gate signs. */
+let chosen = form.names;
 /** A column that may well be the same in each row: of a closing not even the aggregation. */
 const isShared = (name) => !APART.includes(name) && !(form.either.includes(name) && name !== "class");
 
@@ -85,7 +88,8 @@ export function start(changed) {
 /** Has the columns of what each row is to choose from. */
 export function takeKind(kind, changed) {
   form = formOf(kind);
-  byId("import-columns").replaceChildren(...form.names.map((name) => columnField(name, changed)));
+  chosen = form.names.filter((name) => name !== "by" || !signedBy());
+  byId("import-columns").replaceChildren(...chosen.map((name) => columnField(name, changed)));
 }
 
 /** The field that says which column of the sheet is one of an import. */
@@ -167,7 +171,7 @@ export function show(options_, header, found) {
   select("join").checked = Boolean(options_.joinLines);
   const columns = header.map((cell, at) => [at, columnWords(cell, at)]);
   const set = options_.set ?? {};
-  for (const name of form.names) showColumn(name, columns, found, set[name]);
+  for (const name of chosen) showColumn(name, columns, found, set[name]);
   byId("import-matched").textContent = header.length ? matchWords(found, set) : "";
   const used = new Set([...Object.values(found.places), ...Object.values(found.both).flat()]);
   const unused = header.filter((cell, at) => !used.has(at) && cell.trim()).map((cell) => visible(cell.trim()));

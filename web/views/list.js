@@ -67,13 +67,14 @@ export class RecordList {
 
   // ---- the address
 
-  /** The address of the list as it is shown. */
+  /** The address of the list as it is shown. While its day is today it has none, so that a bookmark is of today tomorrow too. */
   #addressOf(question) {
-    const { name, filters, more } = this.kind;
+    const { name, filters, more, first } = this.kind;
     const words = new URLSearchParams({ ...question, ...more?.() });
+    if (question.day === first().day) words.delete("day");
     for (const filter of filters) if (this.filter[filter]) words.set(filter, this.filter[filter]);
     if (this.column) words.set("sort", `${this.down ? "-" : ""}${this.column}`);
-    return `#${name}?${words}`;
+    return words.size ? `#${name}?${words}` : `#${name}`;
   }
 
   #readWords(words) {
@@ -286,12 +287,14 @@ export class RecordList {
     const { name, asks } = this.kind;
     const question = Object.fromEntries(Object.keys(asks).map((word) => [word, values[`${name}-${word}`]]));
     const address = this.#addressOf(question);
-    if (!isSame(question, this.question) && location.hash !== address) {
+    // the view's own address brings the list that was shown last, so that the one of today is opened here
+    if (!isSame(question, this.question) && location.hash !== address && address.includes("?")) {
       location.hash = address;
       return null;
     }
-    history.replaceState(null, "", address);
-    this.#isFirst = false;
+    if (location.hash === address) history.replaceState(null, "", address);
+    else history.pushState(null, "", address);
+    this.#isFirst = question.day === this.kind.first().day;
     return this.open(question);
   }
 
@@ -319,12 +322,13 @@ export class RecordList {
   /** Shows the list that is here already, or the first one: that of today is another one by tomorrow. */
   #showLast() {
     const first = this.kind.first();
-    if (this.question && (!this.#isFirst || isSame(first, this.question))) {
+    const ofToday = this.question && this.#isFirst ? { ...this.question, day: first.day } : first;
+    if (this.question && (!this.#isFirst || isSame(ofToday, this.question))) {
       this.keepAddress();
       return this.open(this.question, true);
     }
     this.#isFirst = true;
-    return this.open(first);
+    return this.open(ofToday);
   }
 
   /** Is called once another view is seen: this one is read anew when somebody comes back. */
@@ -336,7 +340,7 @@ export class RecordList {
 
   /** Shows the list of today if that of an earlier day is here as today's, on a page that stays open; not while some is marked. */
   renew() {
-    if (this.#isFirst && this.marks.size === 0 && !isSame(this.kind.first(), this.question)) this.#showLast();
+    if (this.#isFirst && this.marks.size === 0 && this.question?.day !== this.kind.first().day) this.#showLast();
   }
 
   /** Shows the list that the address names, or else the last one. It is read anew, since it may have changed meanwhile. */
@@ -345,7 +349,7 @@ export class RecordList {
     if (this.part("answer").classList.contains("done")) quiet(this.part("answer"));
     const { asks, first } = this.kind;
     const given = Object.keys(asks).filter((name) => words.has(name));
-    if (!given.length) return this.#showLast();
+    if (!words.size) return this.#showLast();
     const question = { ...first(), ...Object.fromEntries(given.map((name) => [name, words.get(name)])) };
     const wrong = Object.keys(asks).find((name) => !asks[name].takes(question[name]));
     if (wrong) {
@@ -353,7 +357,8 @@ export class RecordList {
       return say(this.part("outcome"), "wrong", paragraph(t(asks[wrong].wrong)));
     }
     this.#readWords(words);
-    if (!isSame(question, this.question)) this.#isFirst = false;
+    if (!words.has("day")) this.#isFirst = true;
+    else if (!isSame(question, this.question)) this.#isFirst = false;
     return this.open(question, isSame(question, this.question));
   }
 }

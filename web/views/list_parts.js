@@ -1,6 +1,6 @@
 // The parts that each list has: filters, what is done with all rows, the table and the confirmation.
 import { field } from "../fields.js";
-import { byId, made, translate } from "../page.js";
+import { byId, made, sentencesOf, translate } from "../page.js";
 import { askReason } from "../reasons.js";
 
 /** Puts these parts into the list of the view of this name. Their ids begin with that name. */
@@ -11,7 +11,7 @@ export function addParts(name, filters) {
   const word = (filter) => made("label", { for: id(filter), "data-text": `${name}.columns.${filter}` });
   const choice = (filter) => made("div", {}, word(filter), made("select", { id: id(filter) }));
   const legend = (text) => made("legend", { "data-text": text });
-  const outcome = (part, more = {}) => made("div", { id: id(part), class: "outcome", role: "status", ...more });
+  const outcome = (part, more = {}) => made("div", { id: id(part), class: "outcome", ...more }, sentencesOf());
   const place = byId(id("list"));
   place.append(
     made(

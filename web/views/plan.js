@@ -2,10 +2,18 @@
 import { clear, untick } from "../fields.js";
 import { byId, made, sentence } from "../page.js";
 import { dueDay, LONGEST } from "../plain/days.js";
-import { isDay, isNumber } from "../plain/forms.js";
+import { isDay, isNumber, today } from "../plain/forms.js";
+import { hasBirthday } from "../plain/persons.js";
+import { noteDone } from "../own_plan.js";
 import { t } from "../texts.js";
 import { begin, stepOf } from "./act_form.js";
 import * as forecast from "./plan_forecast.js";
+
+/** Has the forecasts go by an act of this page that is done, which no catalogue has yet. */
+function noted(act, fate) {
+  if (fate === "done") noteDone(act);
+  return forecast.renew("rule");
+}
 
 /** The forms, by the heading that they are below. */
 const FORMS = {
@@ -26,6 +34,7 @@ const FORMS = {
       },
       act: ({ example, ...members }) => ({ act: "add-schedule", ...members, count: Number(members.count) }),
       clears: ["code"],
+      after: noted,
     },
   ],
   classes: [
@@ -36,6 +45,7 @@ const FORMS = {
       fields: { code: "classCode", title: "title", schedule: "schedule", day: "day" },
       act: (members) => ({ act: "add-class", ...members }),
       clears: ["code", "title"],
+      after: noted,
     },
     {
       id: "plan-rule",
@@ -44,7 +54,7 @@ const FORMS = {
       fields: { class: "class", schedule: "schedule", day: "day" },
       act: (members) => ({ act: "set-class-schedule", ...members }),
       before: forecast.ofRule,
-      after: () => forecast.renew("rule"),
+      after: noted,
     },
   ],
   aggregations: [
@@ -53,6 +63,7 @@ const FORMS = {
       kind: "add-aggregation",
       words: "plan.aggregation",
       fields: { ref: "ref", title: "title", parent: "parent", class: "maybeClass", day: "day" },
+      advice: "fields.persons",
       act: (members) => ({ act: "add-aggregation", ...members, parent: members.parent && Number(members.parent) }),
       clears: ["ref", "title"],
     },
@@ -117,6 +128,17 @@ function addExample() {
   tellExample();
 }
 
+/** Says below the title of an aggregation that it seems to have a date of birth. */
+function watchTitle() {
+  const input = byId("plan-aggregation-title");
+  const place = made("span", { class: "fate unknown", id: "plan-aggregation-title-look", role: "status" });
+  input.after(place);
+  byId("plan-aggregation").addEventListener("input", () => {
+    const look = t("import.lookAt", { what: `${t("plan.fields.title")}: ${t("import.look.birthday")}` });
+    place.textContent = hasBirthday(input.value, today()) ? look : "";
+  });
+}
+
 export function start() {
   for (const [name, forms] of Object.entries(FORMS)) {
     const steps = made("div", { class: `steps ${name}` }, ...forms.map(stepOf));
@@ -124,6 +146,7 @@ export function start() {
     forms.forEach(begin);
   }
   addExample();
+  watchTitle();
   forecast.start();
 }
 

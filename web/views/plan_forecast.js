@@ -1,15 +1,16 @@
 // What closing an aggregation and giving a class another schedule would do, before either is done.
 import { getNewest } from "../ask.js";
-import { aggregations, details, isThere, part, records, refresh, tree } from "../catalogue.js";
+import { aboutIt, aggregations, details, part, records, refresh, tree } from "../catalogue.js";
 import { clear } from "../fields.js";
 import { byId, grouped, link, made, paragraph, plural, tableOf } from "../page.js";
+import { classesWith, schedulesWith } from "../own_plan.js";
 import { closeForecast, ruleForecast } from "../plain/forecast.js";
 import { isCode, isDay, isNumber, today } from "../plain/forms.js";
 import { visible } from "../plain/marks.js";
 import { jsonOf } from "../plain/outcomes.js";
 import { recordsOf } from "../records.js";
 import { all, t } from "../texts.js";
-import { forecastOf, placeIn } from "./forecast.js";
+import { forecastOf, noForecast, placeIn } from "./forecast.js";
 
 const LAST_DAY = "2999-12-31";
 /** So many records are asked for, and so many rows of a table are shown. */
@@ -23,9 +24,7 @@ const dayOf = (id) => (isDay(valueOf(id)) ? valueOf(id) : today());
 
 const noCatalogue = () => ({ seen: "", nodes: [paragraph(t("forecast.noCatalogue"), "hint")] });
 
-async function schedulesByCode() {
-  return new Map(((await part("schedules")) ?? []).map((it) => [it.code, it]));
-}
+const schedulesByCode = async () => schedulesWith((await part("schedules")) ?? []);
 
 // ---- a closing
 
@@ -78,13 +77,14 @@ async function makeClosing() {
 
 // ---- another schedule of a class
 
-/** What a class and a schedule are in the catalogue, or null where one of them is not written or not there. */
-async function ruleWritten() {
-  const [code, name] = [valueOf("plan-rule-class"), valueOf("plan-rule-schedule")];
-  if (!isCode(code) || !isCode(name) || (await refresh()) === null) return null;
-  const it = (await part("classes"))?.find((one) => one.code === code);
+/** What this class and this schedule are, by the catalogue and by what this page did since; or why nobody knows. */
+async function ruleWritten(code, name) {
+  if ((await refresh()) === null) return { unknown: t("forecast.noCatalogue") };
+  const it = classesWith((await part("classes")) ?? []).get(code);
   const rule = (await schedulesByCode()).get(name);
-  return it && rule ? { it, rule } : null;
+  const moment = aboutIt().moment.slice(0, 16).replace("T", " ");
+  if (!rule) return { unknown: t("forecast.rule.newSchedule", { code: name, moment }) };
+  return it ? { it, rule } : { unknown: t("forecast.rule.newClass", { code, moment }) };
 }
 
 function countsList(counts) {
@@ -125,9 +125,9 @@ async function startsOf(rows, trigger) {
 
 async function makeRule() {
   const codes = [valueOf("plan-rule-class"), valueOf("plan-rule-schedule")];
-  const there = await ruleWritten();
-  if (!there) return codes.every(isCode) && !isThere() ? noCatalogue() : nothing;
-  const { it, rule } = there;
+  if (!codes.every(isCode)) return nothing;
+  const { it, rule, unknown } = await ruleWritten(...codes);
+  if (unknown) return noForecast(byId("plan-rule"), unknown, codes);
   const answer = await getNewest(`due/${LAST_DAY}`);
   const list = jsonOf(answer);
   if (answer.status !== 200 || !Array.isArray(list)) return null;

@@ -1,7 +1,7 @@
 // What a run would do, before it is opened and before it is carried out: by class, with the list of its records.
 import { getNewest } from "../ask.js";
 import { isThere, part, refresh } from "../catalogue.js";
-import { byId, grouped, link, made, paragraph, plural, tableOf } from "../page.js";
+import { byId, grouped, link, made, paragraph, plural, sentencesOf, tableOf } from "../page.js";
 import { FATES, runForecast } from "../plain/forecast.js";
 import { isDay, today } from "../plain/forms.js";
 import { visible } from "../plain/marks.js";
@@ -102,7 +102,7 @@ async function make() {
 
 /** Puts the forecast over the forms, and makes it anew for another day. */
 export function start() {
-  const place = made("div", { id: "run-forecast", class: "forecast", role: "status" });
+  const place = made("div", { id: "run-forecast", class: "forecast" }, sentencesOf());
   document.querySelector("#run > .steps").before(place);
   told = forecastOf(byId("run-open"), place, make);
 }

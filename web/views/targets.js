@@ -38,6 +38,14 @@ const linkOf = ({ kind, name }) => {
   return kind === "aggregation" ? link(`#catalogue?part=records&aggregation=${name}`, words) : words;
 };
 
+/** A target in words, with its ref where the catalogue has it, as `record 318, ITV/3/2021`. */
+export async function wordsOfTarget(target) {
+  const it = splitOf(target);
+  const [ref] = namesOf(it, await listsFor([target]));
+  const words = t(`catalogue.targets.${it.kind}`, it);
+  return ref ? `${words}, ${visible(ref)}` : words;
+}
+
 /** The lists of the catalogue that name targets; those of other kinds than these targets have are not read. */
 async function listsFor(targets) {
   const has = (kind) => targets.some((it) => it.startsWith(`${kind}:`));

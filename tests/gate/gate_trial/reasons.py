@@ -7,7 +7,7 @@ from gate_trial.browsing import Browser
 from gate_trial.deeds import MARKED, NEEDED, Stage
 from gate_trial.judging import judge, same
 from gate_trial.proxy import Proxy
-from gate_trial.world import World
+from gate_trial.world import World, today
 
 RULE = f"rule reason-for {' '.join(NEEDED)}\n"
 # somebody with both roles, who lifts a hold and confirms
@@ -134,6 +134,11 @@ def sheets(it: Browser, stage: Stage, world: World, folder: pathlib.Path) -> Non
     same("reasons: a list of events asks for none", fields(it), set())
     it.press("#import-submit")
     same("reasons: and sends none", last(world), ({"event"}, None))
+    text = f"Record,Ref,Action,Due,decision\n{stage.records['old']},,destroy,{today()},yes\n"
+    taken(it, folder / "came-back.csv", text, "")
+    it.press("#import-submit")
+    same("reasons: a due list with decisions needs neither a kind nor a name", last(world), ({"confirm"}, None))
+    same("reasons: it is confirmed by who signed in", world.last("asked")["acts"][0]["by"], NAME)
 
 
 def taken(it: Browser, file: pathlib.Path, text: str, kind: str) -> None:
