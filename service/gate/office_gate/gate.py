@@ -154,12 +154,20 @@ class Gate:
     @contextlib.asynccontextmanager
     async def reading_one(self, asked: Asked, entry: Json, length: int) -> AsyncIterator[None]:
         """Lets one long list at a time be read, which the journal names before. A short one need not wait."""
+        name = asked.person.name
         if length <= LONG:
             yield
             return
-        await self.journal.append(line_of("came", entry, False), is_durable=False)
-        async with self.reading.turn(asked.person.name, asked.ends):
-            yield
+        if self.refusals.is_spent(name, self.access.journal_bytes):
+            raise Answered(429, "often")
+        came = line_of("came", entry, False)
+        await self.journal.append(came, is_durable=False)
+        try:
+            async with self.reading.turn(name, asked.ends):
+                yield
+        except Answered:
+            self.refusals.spend(name, len(body.text_of(came)))
+            raise
 
     async def read(self, asked: Asked, entry: Json, data: bytes) -> list[Json]:
         """Reads a list of acts. Whoever lacks the right to a kind of them costs nobody a turn."""
@@ -172,8 +180,10 @@ class Gate:
     async def ask_ahead(self, asked: Asked, acts: list[Json], questions: Questions) -> None:
         """Asks for what a run's opening needs of many records, while others act. It is judged under the turn."""
         days = [str(act.get("day")) for act in acts if act["act"] == "open-run"]
+        if not days:
+            return
         eyes = Eyes(self.access, self.facts, self.aggregations(), questions)
-        if not days or not eyes.looks():
+        if not eyes.looks():
             return
         with self.lists.one(asked.person.name, self.access.lists_at_once):
             questions.is_ahead = True

@@ -127,4 +127,8 @@ def bounded(world: World) -> None:
     same("what it may do goes on", (world.get("department", "/records/1")[0],
                                     world.act("department", {"act": "confirm", "record": 1, "action": "destroy"})[0]),
          (200, 200))
+    size = world.journal.stat().st_size
+    same("but for a list that would have a line of its own before it", world.text("department", b"[" + b" " * 70_000 + b"]"),
+         (429, {"error": "often"}))
+    same("it has none", world.journal.stat().st_size, size)
     same("another name has its own", world.act("registry", {"act": "lift-hold", "hold": "H"})[0], 403)

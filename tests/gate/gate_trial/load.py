@@ -224,8 +224,9 @@ def questions(world: World, office: Stood) -> None:
         same(f"{count} records", world.act("clerk", *acts, *acts)[0], status)
         same(f"{count} records: questions", office.asked_for("/records/"), 500)
     same("its word", world.act("clerk", *acts)[1], {"error": "work", "records": 500})
+    office.asked_for("")
     same("a name without classes asks for none", (world.act("records-manager", *acts)[0], office.asked_for("/records/")),
-         (200, 500))
+         (200, 0))
 
 
 def twice(world: World) -> None:
