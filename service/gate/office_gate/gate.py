@@ -30,13 +30,13 @@ from office_gate.turns import AtOnce, Turns
 Written = asyncio.Future[Head]
 """the line of an answer, once it is on the disk"""
 LONG = 65_536
-"""a longer list is in the journal before it is read, and one of them is read at a time"""
+"""the bytes of a list above which the journal names it before it is read, and one is read at a time"""
 WHOLE = ("class", "eyes", "gate")
 """the words of refusals whose lines have the acts: what is refused before the classes leaves no text of the client"""
 OWN = ("acts", "contents", "earlier", "reason", "key")
-"""what a line has of the client's own text"""
+"""the members of a line that have text of the client"""
 SUMMARY = ("count", "kinds")
-"""what stands for it"""
+"""the members that stand for these"""
 
 
 def line_of(what: str, entry: Json, is_whole: bool) -> Json:

@@ -1,4 +1,4 @@
-"""What clients can write into the journal: of a refusal a summary, of acts their members, and nothing that hides text."""
+"""The growth of the journal: a summary of each refusal, the members of acts, and nothing that hides text."""
 import json
 import pathlib
 import subprocess
@@ -116,10 +116,11 @@ def bounded(world: World) -> None:
     """The refusals of a name take so many bytes of the journal on a day, and no more; another name has its own."""
     world.reload(SETTINGS + f"limit journal-bytes {BUDGET}\n")
     size, count = world.journal.stat().st_size, len(world.lines())
-    found = [world.act("department", {"act": "lift-hold", "hold": "H"})[0] for _ in range(120)]
+    statuses = [world.act("department", {"act": "lift-hold", "hold": "H"})[0] for _ in range(120)]
     grown = world.journal.stat().st_size - size
     judge("the journal grows by as much", BUDGET * 0.5 < grown < BUDGET * 1.5, grown)
-    judge("then the answer is another one", found[0] == 403 and found[-1] == 429 and sorted(found) == found, found)
+    judge("then the answer is another one", statuses[0] == 403 and statuses[-1] == 429 and
+          sorted(statuses) == statuses, statuses)
     same("its word", world.act("department", {"act": "lift-hold", "hold": "H"})[1], {"error": "often"})
     same("a reading that is refused", world.get("department", "/metrics"), (429, {"error": "often"}))
     lines = [line for line in world.lines()[count:] if line["what"] == "refused"]
@@ -128,7 +129,7 @@ def bounded(world: World) -> None:
                                     world.act("department", {"act": "confirm", "record": 1, "action": "destroy"})[0]),
          (200, 200))
     size = world.journal.stat().st_size
-    same("but for a list that would have a line of its own before it", world.text("department", b"[" + b" " * 70_000 + b"]"),
-         (429, {"error": "often"}))
+    same("but for a list that would have a line of its own before it",
+         world.text("department", b"[" + b" " * 70_000 + b"]"), (429, {"error": "often"}))
     same("it has none", world.journal.stat().st_size, size)
     same("another name has its own", world.act("registry", {"act": "lift-hold", "hold": "H"})[0], 403)
