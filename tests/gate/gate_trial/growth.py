@@ -6,7 +6,7 @@ import sys
 
 from gate_trial.base import SETTINGS, filing, made
 from gate_trial.judging import judge, same
-from gate_trial.world import JOURNAL, SOURCES, TOP, World, today
+from gate_trial.world import JOURNAL, PYTHON, SOURCES, TOP, World, today
 
 sys.path.insert(0, str(JOURNAL.parent))
 
@@ -105,11 +105,13 @@ def older(world: World) -> None:
     place.parent.mkdir()
     data, head = b"", chain.START
     for at in range(3):
-        entry = {"before": head.sha256, "line": head.line + 1, "what": "asked", "reason": f"{HIDING}{at}"}
+        entry = {"before": head.sha256, "line": head.line + 1, "at": f"2026-11-28T10:00:0{at}.000000+00:00",
+                 "what": "refused", "name": "legal", "request": "GET /", "reason": f"{HIDING}{at}"}
         line = json.dumps(entry, ensure_ascii=False, separators=(",", ":")).encode()
         data, head = data + line + b"\n", chain.Head(head.line + 1, chain.digest(line))
     place.write_bytes(data)
-    judge("its chain holds", chain.check([place]).head == head)
+    done = subprocess.run([PYTHON, "-I", JOURNAL, "check", place], capture_output=True, text=True, check=False)
+    judge("its chain holds", done.returncode == 0 and f"{head}" in done.stdout, done.stdout + done.stderr)
 
 
 def bounded(world: World) -> None:
