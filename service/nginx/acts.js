@@ -28,14 +28,14 @@ function passList(r, acts) {
   if (late >= 0) {
     refuse(r, acted, 403, { error: "future", place: late });
   } else {
-    r.variables.acts = JSON.stringify(acted);
+    r.variables.acts = lineOf(acted);
     r.internalRedirect(r.variables.passed_on);
   }
 }
 
 /** Answers a request that is not passed on. */
 function refuse(r, acts, status, body) {
-  r.variables.acts = JSON.stringify(acts);
+  r.variables.acts = lineOf(acts);
   answer(r, status, body);
 }
 
@@ -115,10 +115,12 @@ function line(r) {
   };
   const isLeftOut = of.upstream_addr && !isDone(head.status);
   const acts = isLeftOut ? JSON.stringify("left out: nothing was done") : of.acts || JSON.stringify("");
-  return `${JSON.stringify(head).slice(0, -1)},"acts":${acts}}`.replace(HIDING, escaped);
+  return `${lineOf(head).slice(0, -1)},"acts":${acts}}`;
 }
 
-/** Writes a character as JSON's escape of it. */
+/** Writes a value for the journal. A variable of nginx has bytes, so what hides text is escaped before it is one. */
+const lineOf = (value) => JSON.stringify(value).replace(HIDING, escaped);
+
 const escaped = (text) => `\\u${text.charCodeAt(0).toString(16).padStart(4, "0")}`;
 
 /** Whether acts were done, or may have been. */

@@ -92,13 +92,13 @@ def most_values(text: str, begin: int, end: int) -> int:
 
 
 def white(text: str, at: int) -> int:
-    """Returns the place after white space."""
+    """Returns the first place from there on that is no white space."""
     space = WHITE.match(text, at)
     return space.end() if space else at
 
 
 class Counting:
-    """Reads one act after another, none with more values than acts have: each number and object costs a call."""
+    """A reader of acts, which refuses one with more values than acts have. Each number and object costs it a call."""
 
     def __init__(self) -> None:
         self.left = MOST_OF_ACT
@@ -106,6 +106,7 @@ class Counting:
                                         object_pairs_hook=self.members)
 
     def count(self, values: int) -> None:
+        """Counts values of the act that is being read."""
         self.left -= values
         if self.left < 0:
             raise Answered(413, "work", values=MOST_OF_ACT)

@@ -88,9 +88,9 @@ class Catalogue:
 
     def places(self, wanted: dict[int, str]) -> Places:
         """Returns the aggregations of records that have the refs that the office reports. It runs beside the loop."""
-        found: Places = {}
+        places: Places = {}
         if self.folder is None:
-            return found
+            return places
         try:
             with gzip.open(self.folder / "now/records.json.gz", "rt", encoding="utf-8") as lines:
                 for line in lines:
@@ -99,8 +99,8 @@ class Catalogue:
                         continue
                     number, ref, _, aggregation, _ = json.loads(row[1])
                     if wanted[number] == ref:
-                        found[number, ref] = aggregation
+                        places[number, ref] = aggregation
         except (OSError, EOFError, ValueError, TypeError, zlib.error):
             # the office is asked
             return {}
-        return found
+        return places

@@ -34,13 +34,13 @@ from office_gate.turns import AtOnce, Turns
 Written = asyncio.Future[Head]
 """the line of an answer, once it is on the disk"""
 LONG = 65_536
-"""a longer list is in the journal before it is read, and one of them is read at a time"""
+"""the bytes of a list above which the journal names it before it is read, and one is read at a time"""
 WHOLE = ("class", "eyes", "gate")
 """the words of refusals whose lines have the acts: what is refused before the classes leaves no text of the client"""
 OWN = ("acts", "contents", "earlier", "reason", "key")
-"""what a line has of the client's own text"""
+"""the members of a line that have text of the client"""
 SUMMARY = ("count", "kinds")
-"""what stands for it"""
+"""the members that stand for these"""
 
 
 def line_of(what: str, entry: Json, is_whole: bool) -> Json:
@@ -165,12 +165,20 @@ class Gate:
     @contextlib.asynccontextmanager
     async def reading_one(self, asked: Asked, entry: Json, length: int) -> AsyncIterator[None]:
         """Lets one long list at a time be read, which the journal names before. A short one need not wait."""
+        name = asked.person.name
         if length <= LONG:
             yield
             return
-        await self.journal.append(line_of("came", entry, False), is_durable=False)
-        async with self.reading.turn(asked.person.name, asked.ends):
-            yield
+        if self.refusals.is_spent(name, self.access.journal_bytes):
+            raise Answered(429, "often")
+        came = line_of("came", entry, False)
+        await self.journal.append(came, is_durable=False)
+        try:
+            async with self.reading.turn(name, asked.ends):
+                yield
+        except Answered:
+            self.refusals.spend(name, len(body.text_of(came)))
+            raise
 
     async def read(self, asked: Asked, entry: Json, data: bytes) -> list[Json]:
         """Reads a list of acts. Whoever lacks the right to a kind of them costs nobody a turn."""
@@ -183,8 +191,10 @@ class Gate:
     async def ask_ahead(self, asked: Asked, acts: list[Json], questions: Questions) -> None:
         """Asks for what a run's opening needs of many records, while others act. It is judged under the turn."""
         days = [str(act.get("day")) for act in acts if act["act"] == "open-run"]
+        if not days:
+            return
         eyes = Eyes(self.access, self.facts, self.aggregations(), questions)
-        if not days or not eyes.asks_of_records():
+        if not eyes.asks_of_records():
             return
         with self.lists.one(asked.person.name, self.access.lists_at_once):
             questions.is_ahead = True

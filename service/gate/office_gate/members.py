@@ -10,7 +10,7 @@ from office_gate.pace import each
 MEMBERS: dict[str, frozenset[str]] = {
     kind: frozenset(names) for kind, names in json.loads(Path(__file__).with_name("members.json").read_bytes()).items()}
 OTHER = "other"
-"""stands for the members that a kind does not have. No act has such a member, so a replay has the act refused as well"""
+"""the member for those that a kind does not have. No kind has it, so a replay has the act refused as well"""
 
 
 def parted(act: Json) -> tuple[Json, Json]:

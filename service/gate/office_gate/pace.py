@@ -6,11 +6,11 @@ from typing import TypeVar
 
 Item = TypeVar("Item")
 SLICE = 0.005
-"""after this many seconds of work the other requests have their turn"""
+"""the seconds of work after which other requests have their turn"""
 
 
 class Pace:
-    """How long the work of one request has kept the thread."""
+    """The moment since which the work of one request has kept the thread."""
 
     def __init__(self) -> None:
         self.since = time.monotonic()

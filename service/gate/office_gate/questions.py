@@ -1,4 +1,4 @@
-"""What one list of acts asks the office: the records that it is about, and those that a run may take."""
+"""The questions of one list of acts to the office: the records that it is about, and those that a run may take."""
 import asyncio
 import re
 from collections.abc import AsyncIterator
@@ -10,7 +10,7 @@ from office_gate.office import NEWEST, Answer, Office
 from office_gate.pace import Pace
 
 MOST_RECORDS = 500
-"""a list has the office asked for this many records at most while nobody else acts"""
+"""the records for which one list has the office asked at most, while nobody else acts"""
 RECORD = re.compile(r"/records/([1-9][0-9]*)")
 
 
@@ -26,10 +26,11 @@ async def rows_of(answer: Answer) -> AsyncIterator[Json]:
 
 
 class Questions(Office):
-    """An office for one list of acts. It is asked for each record once, and for `MOST_RECORDS` of them.
+    """The office for one list of acts: it is asked for each record once, and for `MOST_RECORDS` of them at most.
 
-    Before its turn a list may ask for any number of records, for what no act changes: the aggregation of a record, and
-    who confirmed it if the journal has no confirmation. Nobody waits for that.
+    Before its turn (`is_ahead`) a list may ask for any number of records. Only what no act changes is kept of these:
+    the aggregation of a record, and its last confirmation, which counts only if the journal has none. Nobody waits for
+    that.
     """
 
     def __init__(self, office: Office, catalogue: Catalogue) -> None:
@@ -86,6 +87,7 @@ class Questions(Office):
         return self.confirmations[number]
 
     async def learn(self, name: str, number: int) -> None:
+        """Asks for a record, and keeps where it lies and its last confirmation."""
         record = await self.record(name, number)
         if record is None:
             raise Answered(503, "office")

@@ -1,4 +1,4 @@
-"""What clients can write into the journal: of a refusal a summary, of acts their members, and nothing that hides text."""
+"""The growth of the journal: a summary of each refusal, the members of acts, and nothing that hides text."""
 import json
 import pathlib
 import subprocess
@@ -6,7 +6,7 @@ import sys
 
 from gate_trial.base import SETTINGS, filing, made
 from gate_trial.judging import judge, same
-from gate_trial.world import JOURNAL, SOURCES, TOP, World, today
+from gate_trial.world import JOURNAL, PYTHON, SOURCES, TOP, World, today
 
 sys.path.insert(0, str(JOURNAL.parent))
 
@@ -105,21 +105,24 @@ def older(world: World) -> None:
     place.parent.mkdir()
     data, head = b"", chain.START
     for at in range(3):
-        entry = {"before": head.sha256, "line": head.line + 1, "what": "asked", "reason": f"{HIDING}{at}"}
+        entry = {"before": head.sha256, "line": head.line + 1, "at": f"2026-11-28T10:00:0{at}.000000+00:00",
+                 "what": "refused", "name": "legal", "request": "GET /", "reason": f"{HIDING}{at}"}
         line = json.dumps(entry, ensure_ascii=False, separators=(",", ":")).encode()
         data, head = data + line + b"\n", chain.Head(head.line + 1, chain.digest(line))
     place.write_bytes(data)
-    judge("its chain holds", chain.check([place]).head == head)
+    done = subprocess.run([PYTHON, "-I", JOURNAL, "check", place], capture_output=True, text=True, check=False)
+    judge("its chain holds", done.returncode == 0 and f"{head}" in done.stdout, done.stdout + done.stderr)
 
 
 def bounded(world: World) -> None:
     """The refusals of a name take so many bytes of the journal on a day, and no more; another name has its own."""
     world.reload(SETTINGS + f"limit journal-bytes {BUDGET}\n")
     size, count = world.journal.stat().st_size, len(world.lines())
-    found = [world.act("department", {"act": "lift-hold", "hold": "H"})[0] for _ in range(120)]
+    statuses = [world.act("department", {"act": "lift-hold", "hold": "H"})[0] for _ in range(120)]
     grown = world.journal.stat().st_size - size
     judge("the journal grows by as much", BUDGET * 0.5 < grown < BUDGET * 1.5, grown)
-    judge("then the answer is another one", found[0] == 403 and found[-1] == 429 and sorted(found) == found, found)
+    judge("then the answer is another one", statuses[0] == 403 and statuses[-1] == 429 and
+          sorted(statuses) == statuses, statuses)
     same("its word", world.act("department", {"act": "lift-hold", "hold": "H"})[1], {"error": "often"})
     same("a reading that is refused", world.get("department", "/metrics"), (429, {"error": "often"}))
     lines = [line for line in world.lines()[count:] if line["what"] == "refused"]
@@ -127,4 +130,8 @@ def bounded(world: World) -> None:
     same("what it may do goes on", (world.get("department", "/records/1")[0],
                                     world.act("department", {"act": "confirm", "record": 1, "action": "destroy"})[0]),
          (200, 200))
+    size = world.journal.stat().st_size
+    same("but for a list that would have a line of its own before it",
+         world.text("department", b"[" + b" " * 70_000 + b"]"), (429, {"error": "often"}))
+    same("it has none", world.journal.stat().st_size, size)
     same("another name has its own", world.act("registry", {"act": "lift-hold", "hold": "H"})[0], 403)

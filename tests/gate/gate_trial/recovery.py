@@ -69,6 +69,7 @@ def unread(world: World) -> None:
     """Kills the gate while lists are at the office that it does not read, or of which it refuses all: they did nothing."""
     for at, acts in enumerate(([{"act": "lift-hold", "hold": 5}], [{"act": "place-hold", "code": "H", "reason": "r" * 5000}],
                                [{"act": "place-hold", "code": "UNREAD", "reason": "r"}, {"act": "lift-hold"}],
+                               [{"act": "place-hold", "code": "STRANGE", "reason": "r", "strange": "no act has this"}],
                                [{"act": "lift-hold", "hold": "NONE"}], [{"act": "place-hold", "code": "READ", "reason": "r"}])):
         world.office.send_signal(signal.SIGSTOP)
         count = sum(it["what"] == "asked" for it in world.lines())

@@ -40,8 +40,8 @@ class Stood:
             length = LENGTH.search(head)
             while length and len(body) < int(length[1]):
                 body += link.recv(1 << 20)
-            found = PATH.match(head)
-            path = found[2].decode() if found else ""
+            request = PATH.match(head)
+            path = request[2].decode() if request else ""
             self.paths.append(path)
             time.sleep(max([seconds for begin, seconds in self.slow.items() if path.startswith(begin)], default=0))
             link.sendall(whole(json.dumps(self.answer(path, body), separators=(",", ":")).encode()))
