@@ -102,7 +102,7 @@ def reach(files: list[Path], moment: float) -> None:
 def nightly(it: argparse.Namespace) -> int:
     """check the journal with the heads of systemd's journal, and replay the acts between the last two copies"""
     printed(nights.checked(it.journal, nights.heads_of_unit(it.unit) if it.unit else set()), False)
-    with nights.room(it) as folder:
+    with nights.room(it.work) as folder:
         asked = nights.replay_of(it, folder)
         return replay(asked) if asked else 0
 
@@ -179,7 +179,7 @@ def replay_words(one: argparse.ArgumentParser) -> None:
 def nightly_words(one: argparse.ArgumentParser) -> None:
     one.add_argument("--state", type=Path, required=True, help="the folder of the gate, which has the contents")
     one.add_argument("--copies", type=Path, required=True, help="the folder of the nightly copies")
-    one.add_argument("--work", type=Path, required=True, help="a folder with room for several copies")
+    one.add_argument("--work", type=Path, required=True, help="a folder of its own, with room for several copies")
     one.add_argument("--unit", help="the unit of the gate, whose heads systemd's journal has")
 
 

@@ -1,6 +1,7 @@
 """What is looked at each night: the chain of the journal, and whether the last two copies are what the acts between gave."""
 import argparse
 import re
+import shutil
 import subprocess
 import tempfile
 from pathlib import Path
@@ -11,6 +12,7 @@ from office_gate.checking import Checked, check, heads_in
 from office_gate.dropping import dropped
 from office_gate.errors import Refused
 
+ROOM = ".office-journal-"
 TIME = re.compile(r"\d{8}T\d{6}Z\.db")
 
 
@@ -53,5 +55,8 @@ def replay_of(it: argparse.Namespace, folder: str) -> argparse.Namespace | None:
                               until=None, beside=copies[1], contents=[])
 
 
-def room(it: argparse.Namespace) -> tempfile.TemporaryDirectory[str]:
-    return tempfile.TemporaryDirectory(prefix=".office-journal-", dir=it.work)
+def room(work: Path) -> tempfile.TemporaryDirectory[str]:
+    """Makes a folder for copies of the office. What a check left that was cut off goes first."""
+    for it in work.glob(f"{ROOM}*"):
+        shutil.rmtree(it, ignore_errors=True)
+    return tempfile.TemporaryDirectory(prefix=ROOM, dir=work)

@@ -22,6 +22,7 @@ AFTER = "\nrole late may place-hold later-day\nname late is late\n"
 
 
 def tried(folder: pathlib.Path) -> None:
+    allowed()
     world = World(folder, SETTINGS + AFTER)
     clock = Fake(world)
     world.start_office()
@@ -35,6 +36,17 @@ def tried(folder: pathlib.Path) -> None:
     lost(world, clock)
     closed(world, clock, 400)
     world.end()
+
+
+def allowed() -> None:
+    """The unit lets the gate ask whether the clock is synchronised."""
+    unit = TOP / "service/gate/office-gate@.service"
+    code = f"import sys; sys.path[:0] = [{str(JOURNAL.parent)!r}]\nfrom office_gate import clock\n" \
+           "clock.TIMESYNCD = None\nprint(clock.is_synchronised())"
+    for what, words in (("without the unit", []), ("in the unit", [TOP / "tests/unit_filter.py", unit])):
+        done = subprocess.run([*words, PYTHON, "-I", "-c", code], capture_output=True, text=True, check=False)
+        judge(f"it can be asked {what}", done.stdout in ("True\n", "False\n"), done.stderr)
+    judge("no other line of the unit forbids it", "ProtectClock=yes" not in unit.read_text())
 
 
 class Fake:

@@ -15,6 +15,7 @@ from gate_trial.judging import judge, same
 from gate_trial.world import today
 
 GATE = "office-gate@city"
+CHECK = "office-journal-check@city"
 JOURNAL = "/var/log/office/city.journal"
 ACCESS = "/etc/office/city.access"
 COPIES = "/var/lib/office-backups/city"
@@ -223,12 +224,27 @@ def compared(it: Machine) -> None:
                    f"--beside {newer}", "replay beside a later copy")
     judge("no row differs", "differences: 0" in said, said)
     print(said.splitlines()[-1], flush=True)
+    checked(it, "the check of the night", 0, "differences: 0")
     act = json.dumps([{"act": "place-hold", "day": today(), "code": "PAST", "reason": "r", "by": "root"}])
     it.done(f"runuser -u office-gate -- curl --silent --data-binary '{act}' http://127.0.0.1:8081/acts; "
             "systemctl start office-backup@city", "an act past the gate")
     status, said = it.run(f"office-journal replay {JOURNAL} {older} /root/past.db --state /var/lib/office-gate/city "
                           f"--beside $(ls {COPIES}/*Z.db | tail -n 1)")
     judge("it shows", status == 1 and "holds code PAST" in said, said)
+    checked(it, "the check of the night shows it", 1, "differs: holds code PAST")
+    same("its failure is reported", it.run("journalctl -o cat -p err -u office-failed@office-journal-check@city --no-pager "
+                                           "| grep -c 'office-journal-check@city failed'")[1], "1")
+    it.done("systemctl start office-backup@city", "one more night")
+    checked(it, "the check of the night after", 0, "differences: 0")
+
+
+def checked(it: Machine, what: str, status: int, word: str) -> None:
+    """Starts the unit that checks each night, and looks at what it prints and leaves."""
+    seen = it.run(f"systemctl start {CHECK}")[0]
+    said = it.run(f"journalctl -o cat -u {CHECK} --no-pager | tac | sed '/^Starting/q' | tac")[1]
+    judge(f"{what}: status {status}", (seen != 0) == (status != 0) and word in said, (seen, said[-800:]))
+    judge(f"{what}: with the heads of systemd's journal", "heads compared: 0" not in said and "heads compared: " in said, said)
+    same(f"{what}: nothing of it stays", it.run("find /var/cache/private/office-journal-check/city -mindepth 1")[1], "")
 
 
 def year_ended(it: Machine) -> None:
