@@ -100,7 +100,7 @@ def reach(files: list[Path], moment: float) -> None:
 
 
 def nightly(it: argparse.Namespace) -> int:
-    """check the journal with the heads of systemd's journal, and replay the acts between the last two copies"""
+    """check the journal with the heads of systemd's journal, and replay the acts between the copies of the last two nights"""
     printed(nights.checked(it.journal, nights.heads_of_unit(it.unit) if it.unit else set()), False)
     with nights.room(it.work) as folder:
         asked = nights.replay_of(it, folder)

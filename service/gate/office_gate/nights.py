@@ -1,5 +1,6 @@
-"""What is looked at each night: the chain of the journal, and whether the last two copies are what the acts between gave."""
+"""What is looked at each night: the chain of the journal, and whether the acts of a day made one copy of the one before."""
 import argparse
+import datetime
 import re
 import shutil
 import subprocess
@@ -14,6 +15,8 @@ from office_gate.errors import Refused
 
 ROOM = ".office-journal-"
 TIME = re.compile(r"\d{8}T\d{6}Z\.db")
+NIGHT_HOURS = 20
+"""as long is one night from the next, at least"""
 
 
 def heads_of_unit(unit: str) -> set[Head]:
@@ -30,9 +33,23 @@ def heads_of_unit(unit: str) -> set[Head]:
     return heads_in("\n".join(lines))
 
 
-def last_two(folder: Path) -> list[Path]:
-    """Lists the last two copies that office-backup@NAME made, the older one first."""
-    return sorted(it for it in folder.glob("*.db") if TIME.fullmatch(it.name))[-2:]
+def two_of(folder: Path) -> list[Path]:
+    """Lists the copy of the night before and the newest one, as office-backup@NAME named them; fewer if there are not two.
+
+    Where copies are made more often than each night, the two are a night apart all the same.
+    """
+    copies = sorted(it for it in folder.glob("*.db") if TIME.fullmatch(it.name))
+    if len(copies) < 2:
+        return copies
+    *earlier, last = copies
+    before = [it for it in earlier if hours(it, last) >= NIGHT_HOURS]
+    return [before[-1] if before else earlier[0], last]
+
+
+def hours(one: Path, other: Path) -> float:
+    """Returns how many hours are between two copies, by their names."""
+    first, second = (datetime.datetime.strptime(it.name, "%Y%m%dT%H%M%SZ.db") for it in (one, other))
+    return (second - first).total_seconds() / 3600
 
 
 def checked(journal: Path, known: set[Head]) -> Checked:
@@ -46,7 +63,7 @@ def checked(journal: Path, known: set[Head]) -> Checked:
 
 def replay_of(it: argparse.Namespace, folder: str) -> argparse.Namespace | None:
     """Returns what `replay` is asked for, or None if there are no two copies yet."""
-    copies = last_two(it.copies)
+    copies = two_of(it.copies)
     if len(copies) < 2:
         print(f"copies in {it.copies}: {len(copies)}. Nothing is replayed before there are two")
         return None

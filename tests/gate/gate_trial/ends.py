@@ -22,16 +22,17 @@ COUNTS = re.compile(r"lines: (\d+), from line (\d+), head \S+ heads compared: (\
 
 def tried(folder: pathlib.Path) -> None:
     world = made(folder)
-    heads = printed(world)
+    head = printed(world)
     files = three(world)
     world.stop_gate()
-    begun(world, files, heads)
+    begun(world, files, head)
     cut_at_the_end(world, files)
-    forged(world, files, heads)
+    forged(world, files, head)
     fallen(world)
     lines = [it for path in files for it in path.read_bytes().splitlines()][:20]
     dropped(world, lines)
     refused(world, lines)
+    minutely(world)
     world.end()
 
 
@@ -50,23 +51,40 @@ def log(world: World) -> str:
     return (world.folder / "log").read_text()
 
 
-def printed(world: World) -> list[str]:
-    """A head is printed in each minute in which a line came, and at each reload. Returns those that were."""
-    before = PRINTED.findall(log(world))
-    same("at the start", len(before), 1)
+def printed(world: World) -> str:
+    """A head is printed at the start, and at each reload. Returns the last one."""
+    same("at the start", len(PRINTED.findall(log(world))), 1)
+    for it in range(3):
+        world.ask("auditor", "GET", "/records/1")
+    head, line = reloaded(world, 2), world.lines()[-1]["line"]
+    same("at a reload", head, f"{line}:{chain.digest(world.journal.read_bytes().splitlines()[-1])}")
+    same("at a reload without a new line too", reloaded(world, 3), head)
+    return head
+
+
+def reloaded(world: World, count: int) -> str:
+    """Has the gate read its settings anew, and returns the last head once there are so many."""
+    world.gate.send_signal(signal.SIGHUP)
+    return waited(world, count, 20)
+
+
+def waited(world: World, count: int, seconds: float) -> str:
+    """Waits until so many heads are printed, and returns the last one."""
+    began = time.monotonic()
+    while len(PRINTED.findall(log(world))) < count and time.monotonic() - began < seconds:
+        time.sleep(0.1)
+    return PRINTED.findall(log(world))[-1]
+
+
+def minutely(world: World) -> None:
+    """A head is printed in each minute in which a line came."""
+    world.start_gate()
+    count = len(PRINTED.findall(log(world)))
     for it in range(3):
         world.ask("auditor", "GET", "/records/1")
     line = world.lines()[-1]["line"]
-    began = time.monotonic()
-    while len(PRINTED.findall(log(world))) == 1 and time.monotonic() - began < 90:
-        time.sleep(0.5)
-    after = PRINTED.findall(log(world))[1:]
-    same("a minute after some lines", [int(it.split(":")[0]) for it in after], [line])
-    world.gate.send_signal(signal.SIGHUP)
-    while len(PRINTED.findall(log(world))) < 3 and time.monotonic() - began < 100:
-        time.sleep(0.1)
-    same("at a reload", len(PRINTED.findall(log(world))), 3)
-    return after
+    same("a minute after some lines", int(waited(world, count + 1, 90).split(":")[0]), line)
+    world.stop_gate()
 
 
 def three(world: World) -> list[pathlib.Path]:
@@ -108,29 +126,29 @@ def free(place: pathlib.Path) -> None:
     subprocess.run(["chattr", "-R", "-a", place], stderr=subprocess.DEVNULL, check=False)
 
 
-def begun(world: World, files: list[pathlib.Path], known: list[str]) -> None:
+def begun(world: World, files: list[pathlib.Path], known: str) -> None:
     """Without its first lines a journal fails, unless the head of the last of these is given."""
     data = {it.name: it.read_bytes() for it in files}
     heads, oldest = heads_of(files), data[files[0].name].count(b"\n")
-    status, said = run("check", laid(world, data), "--head", known[0])
+    status, said = run("check", laid(world, data), "--head", known)
     same("the journal itself", (status, counts(said)[1:]), (0, (1, 1, 0)))
     without = {it: data[it] for it in data if it != files[0].name}
-    status, said = run("check", laid(world, without), "--head", known[0])
+    status, said = run("check", laid(world, without), "--head", known)
     judge("the oldest file removed", status == 1 and f"lines 1 to {oldest} are not here" in said
           and f"{files[0].name} of {len(data[files[0].name])} bytes" in said, said)
     first = b"".join(data[files[0].name].splitlines(keepends=True)[6:])
-    status, said = run("check", laid(world, data | {files[0].name: first}), "--head", known[0])
+    status, said = run("check", laid(world, data | {files[0].name: first}), "--head", known)
     judge("the first six lines cut", status == 1 and "lines 1 to 6 are not here" in said, said)
     place = laid(world, without)
-    status, said = run("check", place, "--from", heads[oldest - 1], "--head", known[0], "--head", heads[oldest])
+    status, said = run("check", place, "--from", heads[oldest - 1], "--head", known, "--head", heads[oldest])
     same("with the head of what was archived", (status, counts(said)[1:]), (0, (oldest + 1, 1, 1)))
     for what, head in (("another digest", f"{oldest}:{'0' * 64}"), ("another line", heads[oldest - 2]),
                        ("a later line", heads[oldest])):
         status, said = run("check", place, "--from", head)
         judge(f"{what} as the head of what was archived", status == 1 and "line" in said, said)
     same("a head for a whole journal", run("check", laid(world, data), "--from", heads[oldest - 1])[0], 1)
-    two = known[0][:-1] + ("0" if known[0][-1] != "0" else "1")
-    same("a line that was written down in two ways", run("check", laid(world, data), "--head", known[0], "--head", two)[0], 1)
+    two = known[:-1] + ("0" if known[-1] != "0" else "1")
+    same("a line that was written down in two ways", run("check", laid(world, data), "--head", known, "--head", two)[0], 1)
 
 
 def cut_at_the_end(world: World, files: list[pathlib.Path]) -> None:
@@ -151,8 +169,8 @@ def anew(lines: list[bytes], change) -> bytes:
     return b"".join(made_anew)
 
 
-def forged(world: World, files: list[pathlib.Path], known: list[str]) -> None:
-    """Whoever writes lines of before anew is seen by the heads of each minute, that of the running service too."""
+def forged(world: World, files: list[pathlib.Path], known: str) -> None:
+    """Whoever writes lines of before anew is seen by the heads that the running service printed."""
     lines = [it for path in files for it in path.read_bytes().splitlines()]
 
     def other(entry: dict) -> dict:
@@ -160,9 +178,9 @@ def forged(world: World, files: list[pathlib.Path], known: list[str]) -> None:
 
     place = laid(world, {"journal": anew(lines, other)})
     same("each name another, without heads", run("check", place)[0], 0)
-    (world.folder / "heads").write_text(f"{PRINTED.findall(log(world))[0]}\nhead {known[0]}\n")
+    (world.folder / "heads").write_text(f"{PRINTED.findall(log(world))[0]}\nhead {known}\n")
     status, said = run("check", place, "--heads", world.folder / "heads")
-    judge("with those of the first minutes", status == 1 and "somebody wrote the journal anew" in said, said)
+    judge("with those of the service", status == 1 and "somebody wrote the journal anew" in said, said)
 
 
 def fallen(world: World) -> None:
@@ -259,8 +277,8 @@ def refused(world: World, lines: list[bytes]) -> None:
     stay("no day", 2, "--before", "soon", word="'soon'")
     place = parts(world, lines, [100, 300, 200, 1])
     stay("older files after a younger one", 0, "--before", days_ago(180), word="files: 0")
-    place = parts(world, lines, [300, 300, 300, 300])
-    run("drop", place, "--before", days_ago(150), "--recovery-days", "0")
+    place = parts(world, lines, [303, 302, 301, 300])
+    run("drop", place, "--before", days_ago(300), "--recovery-days", "0")
     same("the file that the gate writes stays", [it.name for it in chain.files_of(place)], ["journal"])
     place = parts(world, lines, [300, 200, 100, 1])
     (place.parent / "journal-20260201").write_bytes((place.parent / "journal-20260201").read_bytes().replace(b'"', b"'", 1))

@@ -23,7 +23,7 @@ def tried(folder: pathlib.Path) -> None:
     same("the plan", world.act("records-manager", *plan())[0], 200)
     few(world)
     work(world)
-    copied(world, acting=True)
+    copied(world, "02T023000", acting=True)
     agree(world)
     heads(world)
     failing(world)
@@ -33,9 +33,8 @@ def tried(folder: pathlib.Path) -> None:
     world.end()
 
 
-def copied(world: World, acting: bool = False) -> pathlib.Path:
-    """Takes a copy as the nightly backup does, while acts go on if there are to be any."""
-    time.sleep(1.1)
+def copied(world: World, night: str, acting: bool = False) -> pathlib.Path:
+    """Takes a copy as the backup of a night does, while acts go on if there are to be any."""
     stop, number = threading.Event(), 0
 
     def act() -> None:
@@ -48,7 +47,7 @@ def copied(world: World, acting: bool = False) -> pathlib.Path:
     if acting:
         thread.start()
         time.sleep(0.5)
-    place = world.folder / "copies" / time.strftime("%Y%m%dT%H%M%SZ.db", time.gmtime())
+    place = world.folder / "copies" / f"202601{night}Z.db"
     done = subprocess.run([BACKUP, world.file, place], capture_output=True, text=True, check=False)
     judge("the copy is taken", done.returncode == 0, done.stderr)
     if acting:
@@ -77,7 +76,7 @@ def few(world: World) -> None:
         status, said = nightly(world)
         judge(f"with {count} copies", status == 0 and f"copies in {world.folder / 'copies'}: {count}. Nothing" in said, said)
         if count == 0:
-            copied(world)
+            copied(world, "01T023000")
     (world.folder / "copies/other.db").write_bytes(b"no copy")
 
 
@@ -173,13 +172,15 @@ def contents(world: World) -> None:
 def past(world: World) -> None:
     """An act past the gate fails the night after, by the row of it. The night after that is as it should be."""
     world.direct("POST", "/acts", f'[{{"act":"place-hold","day":"{today()}","code":"PAST","reason":"r","by":"x"}}]'.encode())
-    copied(world)
+    # a copy of an hour later is none of a night
+    copied(world, "03T023000")
+    copied(world, "03T033000")
     status, said = nightly(world)
     judge("an act past the gate", status == 1 and "differs: holds code PAST" in said, said)
     last = max((world.folder / "copies").glob("2*.db"))
     status, said, there = replayed(world, "--beside", last)
     judge("a replay that differs leaves nothing", status == 1 and there == ["y.db"], (said[-300:], there))
-    same("the next night", (copied(world).exists(), nightly(world)[0]), (True, 0))
+    same("the next night", (copied(world, "04T023000").exists(), nightly(world)[0]), (True, 0))
 
 
 def broken(world: World) -> None:
