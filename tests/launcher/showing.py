@@ -11,7 +11,7 @@ from building import with_mount
 from clone import Clone
 from pages_run.commands import TOP
 from pages_run.judging import judge
-from previews import WHOLE, until
+from previews import WHOLE
 
 STORY = TOP / "examples/city_archive"
 PORT = 8090

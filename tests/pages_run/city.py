@@ -7,7 +7,8 @@ from pages_run.judging import judge
 from pages_run.shell import Shell
 
 FILE = "/var/lib/office/city/office.db"
-CALL = f"office-serve --stop-seconds 60 {FILE} 8081"
+READINGS = "/run/office/city/readings"
+CALL = f"office-serve --stop-seconds 60 --readings {READINGS} {FILE} 8081"
 # as the unit does
 AS_OFFICE = "setpriv --reuid=office --regid=office --init-groups --"
 # the records of the city archive
@@ -35,7 +36,8 @@ def make(shell: Shell) -> None:
 
 
 def serve(shell: Shell) -> None:
-    """In place of systemd: what the unit calls."""
+    """In place of systemd: what the unit calls. There root makes the socket for readings, here the office's user does."""
+    shell.run(f"install -d -o office {os.path.dirname(READINGS)}")
     line = shell.serve(f"{AS_OFFICE} {CALL}")
     judge("the office of the unit listens", line == "listening 127.0.0.1:8081\n", line)
 

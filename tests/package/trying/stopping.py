@@ -129,9 +129,9 @@ def judge_hung(booted: "Booted") -> None:
     program = f"$(cut -d ' ' -f 1 /proc/{serve}/task/{serve}/children)"
     restarts = "systemctl show -P NRestarts office@city"
     done = booted.run(f"sleep 10; {restarts}; p={program}; kill -STOP $p; sleep 9; test -e /proc/$p || echo ended; "
-                      f"{ASK} 8081 /records/1 | cut -c 1-3; {restarts}")
+                      f"{ASK} 8081 /due/0001-01-01 | cut -c 1-3; {restarts}")
     judge("systemd: a program that hangs is started again, by the same service", done.out == "0\nended\n200\n0\n", done)
-    done = booted.run(f"kill -STOP {serve}; sleep 8; {ASK} 8081 /records/1 | cut -c 1-3; {restarts}; "
+    done = booted.run(f"kill -STOP {serve}; sleep 8; {ASK} 8081 /due/0001-01-01 | cut -c 1-3; {restarts}; "
                       "journalctl -o cat -u office@city | grep -ci watchdog")
     judge("systemd: an office-serve that hangs is started again by the watchdog, and clients wait",
           done.out.startswith("200\n1\n") and int(done.out.split()[2]) > 0, done)
