@@ -23,5 +23,8 @@ const withOwn = (rows, own) => {
 /** The schedules of a catalogue by their codes, with those of this page. */
 export const schedulesWith = (rows) => withOwn(rows, schedules);
 
+/** Whether this page knows of a class what no catalogue has yet. */
+export const isOwnClass = (code) => classes.has(code);
+
 /** The classes of a catalogue by their codes, with those of this page, each with the schedule that it has now. */
 export const classesWith = (rows) => withOwn(rows, classes);

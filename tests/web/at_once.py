@@ -189,7 +189,7 @@ def receipts(office: Office, it: Counted, proxy: Proxy) -> None:
     it.paste("#catalogue-record-receipt-list", lines)
     page.write(catalogue_record_receipt_by=WHO)
     time.sleep(0.3)
-    says("receipts: what is left out is said", page.seen("#catalogue-record-receipt-preview"), "The receipts of 2 records are filed:", "no SHA-256: 3", "1 is left out")
+    says("receipts: what is left out is said", page.seen("#catalogue-record-receipt-preview"), "The receipts of 2 records will be filed:", "no SHA-256: 3", "1 is left out")
     page.press("#catalogue-record-receipt-submit")
     says("receipts: two are filed", page.seen("#catalogue-answer"), "The receipts of 2 records are filed.")
     first = CASTLE + CONTRACTS

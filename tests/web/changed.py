@@ -234,7 +234,7 @@ def unread(view: View) -> None:
     view.mark(1)
     view.story.office.stop()
     same("changed: without an office nothing is sent", view.press(), 0)
-    says("changed: which is said, with the answer", view.outcome(), WORDS["unread"], "502")
+    says("changed: which is said, with the answer", view.outcome(), WORDS["unread"], TEXTS["proxy"]["502"]["meaning"])
     same("changed: and the mark stays", view.marked(), [1])
     view.story.office.start()
     same("changed: once it is there again it is sent", view.press(), 1)

@@ -331,10 +331,10 @@ def stopped(view: View, folder: pathlib.Path) -> None:
     counts = view.counts()
     in_the_middle = counts["added"] != "0" and counts.get("unknown") == "1" and sent == 1
     judge("a fault stops it in the middle", in_the_middle, str(counts))
-    says("which is said in words", view.outcome(), "503", TEXTS["faults"]["31"]["meaning"], FILING["retryUnknown"])
+    says("which is said in words", view.outcome(), TEXTS["faults"]["31"]["meaning"], FILING["retryUnknown"])
     office.stop()
     view.file()
-    says("an office that has ended, too", view.outcome(), "502", TEXTS["proxy"]["502"]["meaning"])
+    says("an office that has ended, too", view.outcome(), TEXTS["proxy"]["502"]["meaning"])
     office.start()
     files[7].unlink()
     view.file()

@@ -132,6 +132,7 @@ def rule(it: Browser, proxy: Proxy, story: Story) -> None:
     said = it.seen("#plan-rule-forecast")
     shown = {int(row[0]) for row in it.table("#plan-rule-forecast .fallen")}
     it.press("#plan-rule button:not([type])")
+    says("rule: the forecast says of when the class's schedule is", said, "By the catalogue of ", "class LET has schedule D-1.")
     says("rule: it is set", it.seen("#plan-rule-outcome"), TEXTS["plan"]["rule"]["done"].format(**{"class": "LET", "schedule": "D-2"}))
     now = {row["record"]: row for row in story.told(LAST) if row["class"] == "LET"}
     moved = [it for it in before if now[it]["due"] != before[it]["due"]]

@@ -231,6 +231,11 @@ def named(story: Story) -> None:
     it.press("#hold-on button:not([type])")
     says("named: a target is said in words, with its ref", it.seen("#hold-on-outcome"),
          TEXTS["holds"]["isOn"].format(hold="LAW-77", target="record 8, LET/8"))
+    it.go("#import")
+    chosen(it, story.folder / "targets.csv", "hold,target\nLAW-77,record:9\n")
+    it.choose("#import-kind", "hold-on")
+    it.settled()
+    judge("named: in a sheet too", "record 9" in it.table("#import-table")[0], str(it.table("#import-table")))
     it.open(f"{story.proxy.page}#due?class=LET")
     it.press("#due-mark")
     it.press("#due-record-hold-choose")

@@ -71,6 +71,12 @@ function answerOf(row) {
   return [made("span", { class: "hint" }, t(ready)), ...notes];
 }
 
+/** A target as people read it, as `record 5`. */
+function targetWords(target) {
+  const [kind, name] = target.split(":");
+  return t(`catalogue.targets.${kind}`, { name });
+}
+
 /** What a row has in a column: the value that will be sent, else what the sheet has. */
 function shownIn(row, name, at) {
   if (kind === RECORDS) return row.values[at] ?? "";
@@ -80,6 +86,7 @@ function shownIn(row, name, at) {
   }
   const value = row.act?.[name];
   if (name === "act" && value) return t(`${PART}.kinds.${value}`);
+  if (name === "target" && value) return targetWords(value);
   return ["string", "number"].includes(typeof value) ? String(value) : row.shown[name];
 }
 

@@ -3,7 +3,7 @@ import { getNewest } from "../ask.js";
 import { aboutIt, aggregations, details, part, records, refresh, tree } from "../catalogue.js";
 import { clear } from "../fields.js";
 import { byId, grouped, link, made, paragraph, plural, tableOf } from "../page.js";
-import { classesWith, schedulesWith } from "../own_plan.js";
+import { classesWith, isOwnClass, schedulesWith } from "../own_plan.js";
 import { closeForecast, ruleForecast } from "../plain/forecast.js";
 import { isCode, isDay, isNumber, today } from "../plain/forms.js";
 import { visible } from "../plain/marks.js";
@@ -77,12 +77,19 @@ async function makeClosing() {
 
 // ---- another schedule of a class
 
+const momentOf = () => aboutIt().moment.slice(0, 16).replace("T", " ");
+
+/** Of when it is that a class has its schedule: somebody else may have given it another one since. */
+function asOfWords({ code, schedule }) {
+  return isOwnClass(code) ? [] : [t("forecast.rule.asOf", { class: code, schedule, moment: momentOf() })];
+}
+
 /** What this class and this schedule are, by the catalogue and by what this page did since; or why nobody knows. */
 async function ruleWritten(code, name) {
   if ((await refresh()) === null) return { unknown: t("forecast.noCatalogue") };
   const it = classesWith((await part("classes")) ?? []).get(code);
   const rule = (await schedulesByCode()).get(name);
-  const moment = aboutIt().moment.slice(0, 16).replace("T", " ");
+  const moment = momentOf();
   if (!rule) return { unknown: t("forecast.rule.newSchedule", { code: name, moment }) };
   return it ? { it, rule } : { unknown: t("forecast.rule.newClass", { code, moment }) };
 }
@@ -142,7 +149,7 @@ async function makeRule() {
   const confirmed = rows.some((row) => row.confirmed);
   if (confirmed) nodes.push(paragraph(plural("forecast.rule.fall", fallen.length), fallen.length ? "grave" : ""), ...fallenList(fallen));
   if (rows.length > found.length) nodes.push(paragraph(t("forecast.some", { count: grouped(found.length) }), "hint"));
-  nodes.push(paragraph(t("forecast.rule.limits"), "hint"));
+  nodes.push(paragraph([...asOfWords(it), t("forecast.rule.limits")].join(" "), "hint"));
   return { seen: JSON.stringify([it, rule.code, rows.length, counts, fallen.map(({ record }) => record)]), nodes };
 }
 
