@@ -24,6 +24,7 @@ ROWS = [
     Row("tools/receipts --office https:", skip="the site of SERVICE.md is not there"),
     Row("tools/transfer --catalogue none 1 transfer-1", then=is_served),
     Row("cat transfer-1/manifest-sha256.txt"),
+    Row("(cd transfer-1 && sed", prints=""),
     Row("tools/receipts transfer-1"),
     Row("./office apply manager.db 06.json"),
     Row("head -n -1 certificate-3.txt | sha256sum"),
