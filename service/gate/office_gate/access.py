@@ -75,6 +75,7 @@ class Access:
     requests_at_once: int = 8
     lists_at_once: int = 2
     content_days: int = 3
+    free_bytes: int = 256 << 20
     journals_readings: bool = True
 
     def person(self, name: str) -> Person:

@@ -122,7 +122,7 @@ class Replay:
             if place < len(request.answers) and text_of(request.answers[place]) != text_of(seen):
                 given = request.answers[place]
                 return Difference(at, needs_of(act, given, seen),
-                                  differs(f"line {request.line}, act {place}", given, seen), place)
+                                  differs(f"line {request.line}, act {request.places[place]}", given, seen), place)
         return None
 
     def one(self, at: int) -> Difference | None:
@@ -276,6 +276,9 @@ def replay(requests: list[Request], moment: float, until: float, kept: Kept, cop
     if new.exists():
         raise Refused(2, f"{new} is there already")
     copy(copied, new)
+    for it in requests:
+        if it.answered_at > moment:
+            kept.leave_out(it)
     ways = [(it, spans_of(it, moment)) for it in requests if it.acted() and it.asked_at <= until]
     ways = [(it, spans) for it, spans in ways if spans]
     folder = Path(tempfile.mkdtemp(prefix=".office-journal-", dir=new.parent))

@@ -18,7 +18,7 @@ WRONG = ["role a may confrim", "role a may", "role A may confirm", "role a reads
          "rule changer-does-not-open",
          "rule changer-does-not-open 0", "rule changer-does-not-open ten", "rule reason-for", "rule reason-for lifting",
          "rule confirmer-does-not-open 3", "limit requests 0", "limit requests", "limit lists 1000", "limit all 3",
-         "keep contents", "keep contents -1", "keep journals 3", "journal", "journal all", "zone Europe/Nowhere",
+         "keep contents", "keep contents -1", "keep free", "keep free -1", "keep free 1G", "keep journals 3", "journal", "journal all", "zone Europe/Nowhere",
          "zone UTC",
          "site https://localhost", "site localhost", "site https://localhost/city/", "grant x y",
          "name * signs everybody",
