@@ -23,6 +23,8 @@ WORDS = {
     "size": "the vault does not take so large a file",
     "digest": "the vault got other bytes: the file changes, or the network does them harm",
     "busy": "the vault is busy: try again",
+    "often": "this name has too many uploads under way: try again once one has ended",
+    "quota": "this name has too much in the vault that no record names: file the records of what it has put in first",
     "name": "this name may not put files in",
     "origin": "this name may not put files in from here",
     "path": "this office has no vault",

@@ -69,7 +69,7 @@ export function fatesOf(answer, count) {
 }
 
 /** With these words a member of an office on several machines, or a gate, says that nothing was done. */
-const NOTHING_IN_LOG = ["quorum", "recovering", "busy", "full", "clock", "day", "journal", "office", "closed"];
+const NOTHING_IN_LOG = ["quorum", "recovering", "busy", "full", "clock", "day", "journal", "room", "office", "closed"];
 
 /** Whether this answer says that no act was done. */
 function nothingDone(answer, body) {

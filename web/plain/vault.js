@@ -43,7 +43,9 @@ const FORBIDDEN = /[\u0000-\u001f\u007f-\u009f/\\:*?"<>|]+|[\p{Default_Ignorable
 /** The name under which a file is saved: the last part of its place. */
 export const nameOf = (place) => place.split(/[/\\]/).pop().replace(FORBIDDEN, "-").replace(/^[.\s]+|[.\s]+$/g, "") || "file";
 
-const REASONS = { 0: "lost", 400: "lost", 401: "name", 403: "name", 404: "none", 413: "size", 422: "digest", 503: "busy", 507: "full" };
+const REASONS = {
+  0: "lost", 400: "lost", 401: "name", 403: "name", 404: "none", 413: "size", 422: "digest", 429: "busy", 503: "busy", 507: "full",
+};
 
 /** Why a file did not get into the vault, by the status of the answer to its PUT (0: none came): the name of a text. */
 export const whyNot = (status) => REASONS[status] ?? "failed";

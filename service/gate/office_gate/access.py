@@ -80,6 +80,7 @@ class Access:
     lists_at_once: int = 2
     journal_bytes: int = 10_000_000
     content_days: int = 3
+    free_bytes: int = 256 << 20
     journals_readings: bool = True
 
     def person(self, name: str) -> Person:

@@ -1,10 +1,12 @@
 """The contents of today's records, beside the journal: what the journal's acts need to be done once more.
 
 Each day has a file of its own, to which contents are appended. A line of the journal names the file and the place of
-each. After so many days the file is overwritten and removed, since no run reaches it.
+each. After so many days the file is overwritten and removed, since no run reaches it. What the office did not take is
+freed at once: a list that changed nothing leaves nothing on the disk.
 """
 import base64
 import binascii
+import ctypes
 import datetime
 import os
 import subprocess
@@ -12,10 +14,14 @@ from pathlib import Path
 
 from office_gate.body import Json, Number, text_of
 from office_gate.chain import digest
-from office_gate.errors import say
+from office_gate.errors import Answered, say
 
 LONGEST = 4096
 """of a longer text in another member the journal has the length and the digest"""
+PUNCH_HOLE, KEEP_SIZE = 2, 1
+"""what fallocate(2) takes to free bytes within a file"""
+Span = tuple[int, int]
+"""a place in a file, and a length"""
 
 
 class Contents:
@@ -48,6 +54,18 @@ class Contents:
             os.close(folder)
         return {"day": day, "from": at}
 
+    def take_back(self, day: str, spans: list[Span]) -> None:
+        """Frees the bytes of contents that nobody needs. The places of the others stay."""
+        file = os.open(self.folder / day, os.O_RDWR | os.O_CLOEXEC)
+        try:
+            for at, length in reversed(spans):
+                if at + length == os.fstat(file).st_size:
+                    os.ftruncate(file, at)
+                else:
+                    free(file, at, length)
+        finally:
+            os.close(file)
+
     def read(self, day: str, at: int, length: int, sha256: str) -> bytes | None:
         """Returns a content, or None if it is no longer there."""
         try:
@@ -65,6 +83,59 @@ class Contents:
                 done = subprocess.run(["shred", "--iterations=1", "--remove", "--", str(it)], check=False)
                 if done.returncode:
                     say(f"{it} is not removed")
+
+
+def free(file: int, at: int, length: int) -> None:
+    """Frees bytes within a file; on a file system that cannot, overwrites them."""
+    if ctypes.CDLL(None).fallocate64(file, PUNCH_HOLE | KEEP_SIZE, ctypes.c_int64(at), ctypes.c_int64(length)):
+        os.pwrite(file, bytes(length), at)
+
+
+def require(folders: tuple[Path, ...], length: int, reserve: int) -> None:
+    """Refuses what would leave less than the reserve of a disk, so that holds, which are short, still get through."""
+    for it in folders:
+        found = os.statvfs(it)
+        if found.f_bavail * found.f_frsize < length + reserve:
+            raise Answered(503, "room")
+
+
+def changed_nothing(answer: object) -> bool:
+    """Whether an act was refused, or had been done before."""
+    return isinstance(answer, dict) and ("refused" in answer or answer.get("same") is True)
+
+
+def is_unneeded(answered: Json, place: int) -> bool:
+    """Whether the content at a place of a list was not taken, by the answer to the list."""
+    if not answered.get("known", True):
+        return False
+    if answered["status"] not in (200, 409):
+        return True
+    answers = answered.get("answers")
+    return isinstance(answers, list) and place < len(answers) and changed_nothing(answers[place])
+
+
+def unneeded(acts: list[Json], begin: int, answered: Json) -> list[Span]:
+    """Lists where the contents are that the office did not take, of a list whose first content is at `begin`."""
+    found: list[Span] = []
+    for place, (at, length) in spans_of(acts, begin).items():
+        if not is_unneeded(answered, place):
+            continue
+        if found and sum(found[-1]) == at:
+            found[-1] = (found[-1][0], found[-1][1] + length)
+        else:
+            found.append((at, length))
+    return found
+
+
+def spans_of(acts: list[Json], begin: int) -> dict[int, Span]:
+    """Returns where the content of each act is, by its place in the list, as the journal has the acts."""
+    found, at = {}, begin
+    for place, act in enumerate(acts):
+        content = act.get("content")
+        if isinstance(content, dict) and "bytes" in content:
+            found[place] = (at, int(str(content["bytes"])))
+            at += found[place][1]
+    return found
 
 
 def decoded(text: object) -> bytes | None:

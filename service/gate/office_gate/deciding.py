@@ -25,7 +25,7 @@ class Asked:
     lines: dict[str, str]
     # up to then an act waits for those before it, and for the office
     ends: float = field(default_factory=ends_of)
-    # whether nginx reports that the office has a vault; an older configuration of nginx does not report that it has none
+    # whether the office has a vault; an older configuration of nginx does not report that it has none
     has_vault: bool = True
 
 

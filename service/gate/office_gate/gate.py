@@ -16,8 +16,9 @@ from office_gate.body import Json
 from office_gate.budget import Budget
 from office_gate.catalogue import Aggregations, Catalogue
 from office_gate.catching import catch_up
-from office_gate.chain import Head, digest
+from office_gate.chain import START, Head, digest
 from office_gate.clock import Clock
+from office_gate.contents import require, unneeded
 from office_gate.deciding import Asked
 from office_gate.errors import Answered, Refused, say
 from office_gate.eyes import Eyes
@@ -156,11 +157,27 @@ class Gate:
                     if files := await self.possess(asked, acts, questions):
                         entry["files"] = files
                     if parts and "contents" not in entry:
-                        entry["contents"] = await self.journal.in_thread(self.journal.contents.add, parts)
+                        entry["contents"] = await self.journal.in_thread(self.keep, parts)
                     if self.counts(access):
                         break
                 answer, written = await self.send(asked, entry, "/acts", sent)
-        return await self.durable(answer, written)
+        answer, head = await self.durable(answer, written)
+        if parts:
+            await self.take_back(entry, answer)
+        return answer, head
+
+    def keep(self, parts: list[bytes]) -> dict[str, object]:
+        """Writes contents beside the journal, if the disks have room for more than them."""
+        contents = self.journal.contents
+        require((contents.folder, self.journal.path.parent), sum(map(len, parts)), self.access.free_bytes)
+        return contents.add(parts)
+
+    async def take_back(self, entry: Json, answer: Answer) -> None:
+        """Frees the contents that the office did not take. The journal has its answer, so no replay needs them."""
+        place = entry["contents"]
+        if spans := unneeded(entry["acts"], place["from"], answered(START, answer)):
+            with contextlib.suppress(Answered):
+                await self.journal.in_thread(self.journal.contents.take_back, place["day"], spans)
 
     @contextlib.asynccontextmanager
     async def reading_one(self, asked: Asked, entry: Json, length: int) -> AsyncIterator[None]:
@@ -327,6 +344,8 @@ class Gate:
         try:
             yield
         except Answered as refused:
+            if "contents" in entry:
+                await self.take_back(entry, Answer(refused.status, b""))
             await self.refuse(entry, refused)
             raise
         except Exception as error:

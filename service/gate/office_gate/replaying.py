@@ -124,7 +124,7 @@ class Replay:
             if place < len(request.answers) and text_of(request.answers[place]) != text_of(seen):
                 given = request.answers[place]
                 return Difference(at, needs_of(act, given, seen),
-                                  differs(f"line {request.line}, act {place}", given, seen), place)
+                                  differs(f"line {request.line}, act {request.places[place]}", given, seen), place)
         return None
 
     def one(self, at: int) -> Difference | None:
@@ -278,6 +278,9 @@ def replay(requests: list[Request], times: tuple[float, float], kept: Kept, file
     (moment, until), (copied, new) = times, files
     if new.exists():
         raise Refused(2, f"{new} is there already")
+    for it in requests:
+        if it.answered_at > moment:
+            kept.leave_out(it)
     ways = [(it, spans_of(it, moment)) for it in requests if it.acted() and it.asked_at <= until]
     ways = [(it, spans) for it, spans in ways if spans]
     folder = Path(tempfile.mkdtemp(prefix=".office-journal-", dir=new.parent))

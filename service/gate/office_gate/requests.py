@@ -10,7 +10,7 @@ from typing import Any
 
 from office_gate.body import Json, number_in
 from office_gate.chain import entries
-from office_gate.contents import Contents
+from office_gate.contents import Contents, changed_nothing, spans_of
 from office_gate.errors import Refused
 from office_gate.words import OF_RECORD
 
@@ -34,6 +34,8 @@ class Request:
     answered_at: float = float("inf")
     status: int = 0
     is_known: bool = False
+    # where each act stood in the list that was sent
+    places: list[int] = field(default_factory=list)
 
     def count(self) -> int:
         """Returns how many acts it has; of POST /run/resume nobody knows how many steps."""
@@ -56,8 +58,11 @@ class Request:
 
 
 def take(entry: Json) -> Request:
-    acts = entry.get("acts") if entry["request"] == "POST /acts" else None
-    return Request(int(entry["line"]), seconds(entry["at"]), acts, entry.get("contents"))
+    acts, contents = entry.get("acts") if entry["request"] == "POST /acts" else None, entry.get("contents")
+    if acts and contents:
+        for place, (at, _) in spans_of(acts, int(str(contents["from"]))).items():
+            acts[place]["content"]["from"] = at
+    return Request(int(entry["line"]), seconds(entry["at"]), acts, contents, places=list(range(len(acts or []))))
 
 
 def read(files: list[Path]) -> list[Request]:
@@ -100,6 +105,11 @@ def cut_at(requests: list[Request], moment: float) -> None:
 
 # ---- contents, which the journal has not
 
+def has_content(act: Json) -> bool:
+    """Whether the journal has the length of a content of this act in its place."""
+    return isinstance(act.get("content"), dict) and "bytes" in act["content"]
+
+
 class Kept:
     """The contents that the gate keeps, and those of files of an office."""
 
@@ -109,28 +119,38 @@ class Kept:
 
     def of(self, request: Request) -> list[Json]:
         """Returns the acts of a request with their contents."""
-        at = int(str(request.contents["from"])) if request.contents else 0
         found = []
         for act in request.acts or []:
             it = dict(act)
-            if isinstance(act.get("content"), dict) and "bytes" in act["content"]:
-                length, sha256 = int(str(act["content"]["bytes"])), act["content"]["sha256"]
-                data = self.one(request, at, length, sha256)
+            if has_content(act):
+                data = self.one(request, act["content"])
+                if data is None:
+                    raise Refused(1, f"line {request.line}: a content of {act['content']['bytes']} bytes, SHA-256 "
+                                     f"{act['content']['sha256']}, is no longer there")
                 it["content"] = base64.b64encode(data).decode()
-                at += length
             found.append(it)
         return found
 
-    def one(self, request: Request, at: int, length: int, sha256: str) -> bytes:
-        day = str((request.contents or {}).get("day"))
-        data = self.contents.read(day, at, length, sha256)
+    def one(self, request: Request, content: Json) -> bytes | None:
+        """Returns a content, or None if it is no longer there."""
+        day, sha256 = str((request.contents or {}).get("day")), content["sha256"]
+        data = self.contents.read(day, int(content["from"]), int(str(content["bytes"])), sha256)
         for file in self.files if data is None else []:
             query = "SELECT bytes FROM contents JOIN records ON num = record WHERE digest = ? LIMIT 1"
-            for (content,) in file.execute(query, (sha256,)):
-                data = content
-        if data is None:
-            raise Refused(1, f"line {request.line}: a content of {length} bytes, SHA-256 {sha256}, is no longer there")
+            for (content_bytes,) in file.execute(query, (sha256,)):
+                data = content_bytes
         return data
+
+    def leave_out(self, request: Request) -> None:
+        """Takes acts out of a request that changed nothing, and whose contents the gate took back."""
+        acts, answers = request.acts or [], request.answers
+        if not request.is_known or len(acts) != len(answers):
+            return
+        stay = [at for at, (act, answer) in enumerate(zip(acts, answers)) if not (
+            has_content(act) and changed_nothing(answer) and self.one(request, act["content"]) is None)]
+        if len(stay) < len(acts):
+            request.acts, request.answers = [acts[at] for at in stay], [answers[at] for at in stay]
+            request.places = [request.places[at] for at in stay]
 
 
 # ---- what an act, and a row of a table, is about

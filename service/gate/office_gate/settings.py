@@ -143,9 +143,12 @@ class Reader:
             raise Wrong("write: limit requests N, limit lists N, or limit journal-bytes N")
 
     def keep(self, words: list[str]) -> None:
-        if words[:1] != ["contents"]:
-            raise Wrong("write: keep contents DAYS")
-        self.set_once("content_days", number(words[1:], 0, 366))
+        if words[:1] == ["contents"]:
+            self.set_once("content_days", number(words[1:], 0, 366))
+        elif words[:1] == ["free"]:
+            self.set_once("free_bytes", number(words[1:], 0, 1_000_000) << 20)
+        else:
+            raise Wrong("write: keep contents DAYS, or keep free MEGABYTES")
 
     def journal(self, words: list[str]) -> None:
         if words not in (["readings"], ["acts"]):

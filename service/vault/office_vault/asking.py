@@ -52,7 +52,7 @@ class Served:
             end = it["ended"] or {"run": None, "outcome": None}
             if (it["status"] == "ended") != (end["run"] is not None):
                 raise ValueError("status and end of the record differ")
-            return Said(it["ref"], it["digest"], it["length"], end["run"], end["outcome"])
+            return Said(it["ref"], it["digest"], it["length"], end["run"], end["outcome"], it["class"])
         except (ValueError, KeyError, TypeError) as error:
             raise Refused(3, f"{self.address} is no office: record {number} is {body[:200]!r}") from error
 

@@ -1,4 +1,5 @@
 """The check: each object has its digest, and each file that a record with content names is there with its length."""
+from collections import defaultdict
 from collections.abc import Iterator
 
 from office_vault import offices, opening
@@ -6,13 +7,13 @@ from office_vault.objects import Vault, digest_of, stamp_at
 from office_vault.offices import Office
 
 
-def of_manifests(vault: Vault, office: Office, named: set[str]) -> Iterator[str]:
-    """Compares each manifest with the objects, and notes which digests are named."""
-    for number, found in offices.readings(office):
+def of_manifests(vault: Vault, office: Office, named: dict[str, set[str]]) -> Iterator[str]:
+    """Compares each manifest with the objects, and notes which digests are named, and in which classes."""
+    for number, record, found in offices.readings(office):
         if not found.is_sound:
             yield f"record {number} begins as a manifest and is none; what it contains is kept"
         for digest, length in found.names:
-            named.add(digest)
+            named[digest].add(record.code)
             path = vault.path(digest)
             if stamp_at(path) is None:
                 # a record that ended meanwhile names nothing
@@ -34,7 +35,7 @@ def of_objects(vault: Vault) -> Iterator[str]:
 
 def check(vault: Vault, place: str, is_quick: bool, lines: dict[str, str]) -> Iterator[str]:
     """Lists what is wrong, and at last a line of counts. A quick check reads no object."""
-    named: set[str] = set()
+    named: dict[str, set[str]] = defaultdict(set)
     wrong = 0
     with opening.opened(place, vault.work, lines) as office:
         for it in of_manifests(vault, office, named):
@@ -43,5 +44,8 @@ def check(vault: Vault, place: str, is_quick: bool, lines: dict[str, str]) -> It
     for it in () if is_quick else of_objects(vault):
         wrong += 1
         yield it
+    for digest, codes in sorted(named.items()):
+        if len(codes) > 1:
+            yield f"object {digest} is named in the classes {' '.join(sorted(codes))}"
     there = {digest for digest, _ in vault.stamps()}
-    yield f"objects {len(there)}, named {len(named)}, unnamed {len(there - named)}, wrong {wrong}"
+    yield f"objects {len(there)}, named {len(named)}, unnamed {len(there - named.keys())}, wrong {wrong}"

@@ -17,7 +17,12 @@ ENDS = """
 CREATE TEMP TABLE ends(record INTEGER PRIMARY KEY, run INTEGER, outcome TEXT);
 INSERT INTO ends SELECT record, run, outcome FROM entries WHERE outcome IN ('destroyed', 'transferred');
 """
-SAID = "SELECT ref, digest, size, run, outcome FROM records LEFT JOIN ends ON record = num WHERE num = ?"
+SAID = """
+WITH RECURSIVE up(container, height) AS (SELECT aggregation, 1 FROM records WHERE num = ?1
+  UNION ALL SELECT parent, height + 1 FROM up JOIN aggregations ON num = container WHERE parent IS NOT NULL)
+SELECT ref, digest, size, run, outcome, coalesce(class, (SELECT a.class FROM up JOIN aggregations AS a
+  ON a.num = container WHERE a.class IS NOT NULL ORDER BY height LIMIT 1), '')
+  FROM records LEFT JOIN ends ON record = num WHERE num = ?1"""
 CONTENT = "SELECT bytes FROM records JOIN contents ON record = num WHERE num = ? AND status <> 'ended'"
 
 

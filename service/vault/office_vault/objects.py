@@ -69,7 +69,7 @@ class Vault:
         return self.objects / digest[:2] / digest
 
     def lock(self) -> contextlib.AbstractContextManager[None]:
-        """Returns the lock that a PUT and a sweep hold for a moment, to take room, to name, renew or take out an object."""
+        """Returns the lock that a PUT and a sweep hold for a moment, as they take room, name, renew or take out."""
         return locked(self.folder / "lock")
 
     def sweeping(self) -> contextlib.AbstractContextManager[None]:

@@ -22,6 +22,8 @@ class Said:
     length: int
     run: int | None = None
     outcome: str | None = None
+    # the code of its class in effect
+    code: str = ""
 
     @property
     def is_here(self) -> bool:
@@ -53,11 +55,11 @@ def reading(office: Office, number: int, said: Said) -> manifest.Reading | None:
     return manifest.keeps(content)
 
 
-def readings(office: Office) -> Iterator[tuple[int, manifest.Reading]]:
+def readings(office: Office) -> Iterator[tuple[int, Said, manifest.Reading]]:
     """Lists what the records that have their content keep in the vault: those that keep something, or have a slip."""
     number = 1
     while (said := office.said(number)) is not None:
         found = reading(office, number, said)
         if found is not None and (found.names or not found.is_sound):
-            yield number, found
+            yield number, said, found
         number += 1

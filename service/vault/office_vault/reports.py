@@ -13,6 +13,8 @@ KEPT = """
 SELECT digest, record, ref, run, outcome, by FROM kept JOIN naming USING (record) WHERE sweep = ?
   ORDER BY digest, record"""
 
+SHARED = "SELECT digest, classes FROM shared WHERE sweep = ? ORDER BY digest"
+
 
 def path(vault: Vault, number: int) -> Path:
     return vault.reports / f"sweep-{number:06}.txt"
@@ -37,6 +39,8 @@ def text(state: State, number: int) -> str:
         because = state.rows(BECAUSE, digest) or [(None,) * 4]
         lines += [row("OBJECT", digest, length, *it) for it in because]
     lines += [f"KEPT {len(kept)}", *(row("BY-RECORD", *it) for it in kept)]
+    shared = state.rows(SHARED, number)
+    lines += [f"SHARED {len(shared)}", *(row("IN-CLASSES", digest, *classes.split()) for digest, classes in shared)]
     body = "".join(f"{it}\n" for it in lines)
     return f"{body}SHA256 {hashlib.sha256(body.encode()).hexdigest()}\n"
 

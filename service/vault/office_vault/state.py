@@ -15,7 +15,8 @@ TABLES = """
 CREATE TABLE IF NOT EXISTS sweeps(number INTEGER PRIMARY KEY, began REAL NOT NULL, named INTEGER NOT NULL,
   waiting INTEGER NOT NULL) STRICT;
 CREATE TABLE IF NOT EXISTS known(record INTEGER PRIMARY KEY, digest BLOB NOT NULL) STRICT;
-CREATE TABLE IF NOT EXISTS naming(record INTEGER PRIMARY KEY, ref TEXT NOT NULL, run INTEGER, outcome TEXT) STRICT;
+CREATE TABLE IF NOT EXISTS naming(record INTEGER PRIMARY KEY, ref TEXT NOT NULL, run INTEGER, outcome TEXT,
+  class TEXT) STRICT;
 CREATE TABLE IF NOT EXISTS names(digest BLOB, record INTEGER, length INTEGER, PRIMARY KEY (digest, record)) STRICT,
   WITHOUT ROWID;
 CREATE INDEX IF NOT EXISTS names_of_a_record ON names(record);
@@ -25,6 +26,8 @@ CREATE TABLE IF NOT EXISTS kept(sweep INTEGER, digest BLOB, record INTEGER, by I
   PRIMARY KEY (sweep, digest, record)) STRICT, WITHOUT ROWID;
 CREATE TABLE IF NOT EXISTS gone(sweep INTEGER, digest BLOB, length INTEGER NOT NULL, at REAL,
   PRIMARY KEY (sweep, digest)) STRICT, WITHOUT ROWID;
+CREATE TABLE IF NOT EXISTS shared(digest BLOB, classes TEXT, sweep INTEGER NOT NULL, PRIMARY KEY (digest, classes))
+  STRICT, WITHOUT ROWID;
 CREATE TEMP TABLE listed(digest BLOB PRIMARY KEY, inode INTEGER NOT NULL, put INTEGER NOT NULL) STRICT, WITHOUT ROWID;
 CREATE TEMP TABLE named(digest BLOB PRIMARY KEY) STRICT, WITHOUT ROWID;
 """
@@ -35,6 +38,9 @@ SEE = """
 CREATE TEMP TABLE now_seen AS SELECT listed.digest, listed.inode, listed.put,
   CASE WHEN (listed.inode, listed.put) IS (seen.inode, seen.put) THEN since ELSE ?1 END AS since
   FROM listed LEFT JOIN seen USING (digest) WHERE listed.digest NOT IN (SELECT digest FROM named)"""
+SHARED = """
+SELECT digest, group_concat(class, ' ') AS classes FROM (SELECT DISTINCT digest, class FROM names JOIN naming
+  USING (record) WHERE run IS NULL AND class IS NOT NULL ORDER BY digest, class) GROUP BY digest HAVING count(*) > 1"""
 DUE = "SELECT digest, inode, put FROM seen WHERE since <= ? AND since < ? ORDER BY digest"
 
 
@@ -45,6 +51,9 @@ class State:
         self.tables = sqlite3.connect(folder / "state.db", isolation_level=None)
         self.tables.execute("PRAGMA synchronous = FULL")
         self.tables.executescript(TABLES)
+        if "class" not in {name for _, name, *_ in self.rows("PRAGMA table_info(naming)")}:
+            # a vault that was swept before classes were noted
+            self.tables.execute("ALTER TABLE naming ADD COLUMN class TEXT")
 
     def __enter__(self) -> "State":
         self.tables.execute("BEGIN IMMEDIATE")
@@ -96,7 +105,7 @@ class State:
         """Notes a record that was read, and what it names."""
         self.tables.execute("INSERT INTO known VALUES (?, ?)", [number, bytes.fromhex(said.digest)])
         if reading and reading.names:
-            self.tables.execute("INSERT INTO naming VALUES (?, ?, NULL, NULL)", [number, said.ref])
+            self.tables.execute("INSERT INTO naming VALUES (?, ?, NULL, NULL, ?)", [number, said.ref, said.code])
             self.tables.executemany("INSERT INTO names VALUES (?, ?, ?)",
                                     [(bytes.fromhex(digest), number, length) for digest, length in reading.names])
 
@@ -110,6 +119,13 @@ class State:
         self.tables.executemany("UPDATE naming SET run = ?, outcome = ? WHERE record = ?",
                                 [(it.run, it.outcome, number) for number, it in ends.items()])
         self.tables.executemany(KEPT, [(self.last()[0] + 1, number) for number in ends])
+
+    def compare_classes(self, codes: dict[int, str]) -> None:
+        """Notes the classes of records, and the files that records of several classes name since this sweep."""
+        self.tables.executemany("UPDATE naming SET class = ? WHERE record = ?",
+                                [(code, number) for number, code in codes.items()])
+        self.tables.execute(f"DELETE FROM shared WHERE (digest, classes) NOT IN ({SHARED})")
+        self.tables.execute(f"INSERT OR IGNORE INTO shared SELECT digest, classes, ? FROM ({SHARED})", [self.last()[0] + 1])
 
     def name_all(self) -> None:
         """Notes which digests the records with content name."""

@@ -82,6 +82,7 @@ def learn(state: State, office: Office) -> None:
         number += 1
     state.ended({it: said for it, said in old.items() if not said.is_here})
     state.name_all()
+    state.compare_classes({it: said.code for it, said in old.items()})
 
 
 def decide(state: State, began: float, rules: Rules) -> list[tuple[str, Stamp]]:
@@ -137,7 +138,7 @@ def sweep_copies(vault: Vault, folder: Path, rules: Rules = Rules()) -> Path:
         with state:
             for copy in copies:
                 with contextlib.closing(Copied(copy)) as office:
-                    for _, found in offices.readings(office):
+                    for _, _, found in offices.readings(office):
                         state.name(digest for digest, _ in found.names)
             due = decide(state, began, rules)
         return end(vault, state, due)

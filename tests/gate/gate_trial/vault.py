@@ -43,7 +43,8 @@ class Vault:
             it.mkdir(parents=True)
         self.command = SOURCES / "vault/office-vault"
         subprocess.run([self.command, "make", self.place], check=True)
-        more = {"/var/lib/office-vaults/": f"{folder}/vaults/", "/run/office-vault/$vault/socket": f"{folder}/sockets/$vault"}
+        more = {"/var/lib/office-vaults/": f"{folder}/vaults/",
+                "/run/office-vault/$vault/socket": f"{folder}/sockets/$vault"}
         self.proxy = Proxy(folder / "nginx", "gated.conf", NAMES, world.place, world.port, folder / "catalogue", more)
         world.settings.write_text(f"site {self.proxy.here}\nzone UTC\n" + SETTINGS + CLERKS)
         self.process: subprocess.Popen | None = None
@@ -122,14 +123,14 @@ def foreign(it: Vault, letter: bytes) -> int:
                                ("none", b"", 422)):
         same(f"builder puts {name} in under its digest", it.put("builder", data, letter)[0], wanted)
         same(f"{name} are no possession", it.file("builder", manifest(letter), 1), refusal(letter))
-    judge("nginx alone reports what is there", it.proxy.ask("builder", "GET", f"/city/stored?length={LETTER}")[0] == 404)
+    same("nginx alone reports what is there", it.proxy.ask("builder", "GET", f"/city/stored?length={LETTER}")[0], 404)
     status, found = it.proxy.act("builder", [{**filing(5, 1, b"plain"), "day": today()},
                                              {**filing(6, 1, manifest(b"x", letter)), "day": today()}])
     same("the first one in a list", (status, found), refusal(b"x", 1))
     same("nothing of the list is done", json.loads(it.proxy.ask("builder", "GET", "/city/records/4")[1]),
          {"error": "record"})
-    for name, path, wanted in (("auditor", "files", "right"), ("auditor", "files/1", "right"), ("builder", "files", "class"),
-                               ("department", "files", "class")):
+    for name, path, wanted in (("auditor", "files", "right"), ("auditor", "files/1", "right"),
+                               ("builder", "files", "class"), ("department", "files", "class")):
         same(f"{name} sees no digest by {path}", it.proxy.ask(name, "GET", f"/city/records/{record}/{path}"),
              (403, f'{{"error":"{wanted}"}}'.encode()))
     return record
@@ -138,7 +139,8 @@ def foreign(it: Vault, letter: bytes) -> int:
 def own(it: Vault, letter: bytes) -> None:
     """Who has the bytes names them, reads them, and goes on after a start of the gate."""
     status, body = it.put("builder", letter)
-    same("builder puts the same bytes in", (status, json.loads(body)), (201, {"length": LETTER, "sha256": digest(letter)}))
+    same("builder puts the same bytes in", (status, json.loads(body)),
+         (201, {"length": LETTER, "sha256": digest(letter)}))
     line = it.world.last("stored")
     same("the journal has it", (line["name"], line["request"], line["bytes"], line["from"]),
          ("builder", f"PUT /vault/{digest(letter)}", LETTER, "127.0.0.1"))
@@ -155,16 +157,18 @@ def slips(it: Vault) -> None:
     data = b"of personnel" * 99
     same("personnel puts it in", it.put("personnel", data)[0], 201)
     text = manifest(data)
-    for name, slip in (("line ends", text.replace(b"\n", b"\r\n")), ("capitals", text.upper()), ("a mark", b"\xef\xbb\xbf" + text),
-                       ("a tail", text + b"x"), ("no place", text[:text.index(b"PLACE")]), ("blanks", b" \n" + text),
+    for name, slip in (("line ends", text.replace(b"\n", b"\r\n")), ("capitals", text.upper()),
+                       ("a mark", b"\xef\xbb\xbf" + text), ("a tail", text + b"x"), ("no place", text[:text.index(b"PLACE")]), ("blanks", b" \n" + text),
                        ("UTF-16", text.decode().encode("utf-16"))):
         same(f"with {name}", it.file("builder", slip, 1), refusal(data))
-    for name, plain in (("a digest alone", digest(data).encode()), ("a list of digests", f"{digest(data)}  scan\n".encode()),
+    for name, plain in (("a digest alone", digest(data).encode()),
+                        ("a list of digests", f"{digest(data)}  scan\n".encode()),
                         ("a word", b"SHA256 is an algorithm, and this is a text about it of more than 64 letters")):
         same(f"{name} names nothing", it.file("builder", plain, 1)[0], 200)
     coded = base64.b64encode(text).decode()
-    for name, spelled in (("white space", f" {coded}"), ("a line end", coded[:60] + "\n" + coded[60:]), ("two parts", coded + coded),
-                          ("no padding", base64.b64encode(text + b"x").decode().rstrip("=")), ("URL letters", coded + "-_")):
+    for name, spelled in (("white space", f" {coded}"), ("a line end", coded[:60] + "\n" + coded[60:]),
+                          ("two parts", coded + coded), ("URL letters", coded + "-_"),
+                          ("no padding", base64.b64encode(text + b"x").decode().rstrip("="))):
         act = {**filing(900, 1), "content": spelled, "day": today()}
         status, found = it.proxy.act("builder", [act])
         judge(f"base64 with {name} names nothing unseen", status in (400, 403), (status, found))
@@ -183,8 +187,8 @@ def read_elsewhere(it: Vault, letter: bytes, record: int) -> None:
     """Who may read a file in some record may name it."""
     status, found = it.file("records-manager", manifest(letter), 1)
     same("who reads the contents of all classes names it", status, 200)
-    same("legal may not file at all", it.file("legal", manifest(letter), 1), (403, {"error": "right", "act": "add-record",
-                                                                                  "place": 0}))
+    same("legal may not file at all", it.file("legal", manifest(letter), 1),
+         (403, {"error": "right", "act": "add-record", "place": 0}))
     judge("it is a record of its own", found[0]["number"] > record, found)
 
 
@@ -205,9 +209,9 @@ def ended(it: Vault, letter: bytes, record: int) -> None:
 
 def kept(it: Vault) -> None:
     """A start of the gate forgets nothing, nor does the loss of what it derived."""
-    data = b"before a start" * 99
-    same("builder puts it in", it.put("builder", data)[0], 201)
     for what in ("a stop", "a loss of what is derived", "what an older gate derived"):
+        data = what.encode() * 99
+        same("builder puts it in", it.put("builder", data)[0], 201)
         it.world.stop_gate()
         if what == "a loss of what is derived":
             (it.world.state / "facts.db").unlink()

@@ -7,6 +7,7 @@ import signal
 import socket
 import subprocess
 import time
+from typing import Any
 
 TOP = pathlib.Path(__file__).resolve().parents[3]
 OFFICE = os.environ.get("OFFICE") or str(TOP / "crates/office/out/office")
@@ -19,13 +20,14 @@ HERE = {"Host": "localhost", "Origin": "https://localhost"}
 SITE = "site https://localhost\nzone {zone}\n"
 
 
-STARTED: list[subprocess.Popen[bytes]] = []
+STARTED: list[subprocess.Popen[Any]] = []
 """what the trial started, to end it however the trial ends"""
 
 
 def end_all() -> None:
     for it in STARTED:
-        it.kill()
+        # nginx ends its workers, which outlive a kill
+        it.send_signal(signal.SIGTERM if it.args[0] == "nginx" else signal.SIGKILL)
         it.wait()
     STARTED.clear()
 

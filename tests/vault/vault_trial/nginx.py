@@ -159,7 +159,8 @@ def tried(folder: pathlib.Path) -> None:
             same("a disk without room, with most of the bytes to come",
                  it.curl(f"/city/vault/{'1' * 64}", "--upload-file", folder / "large"), (507, b'{"error":"full"}'))
             world.restart_service("--internal", "/office-vault-objects/city/objects")
-            unreadable(Proxy(folder / "nobody", world.office.port, court.port, 21590, *places), world, digest(data), len(data))
+            other = Proxy(folder / "nobody", world.office.port, court.port, 21590, *places)
+            unreadable(other, world, digest(data), len(data))
             with Proxy(folder / "alone", world.office.port, court.port, 21580, *places, "office.conf") as one:
                 alone(one, world, data)
             world.service.kill()

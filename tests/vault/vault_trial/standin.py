@@ -61,7 +61,7 @@ class StandIn:
         it = self.records[number]
         end = {"outcome": "destroyed", "run": it.run} if it.run else None
         return json.dumps({"ref": f"r{number}", "digest": it.digest, "length": len(self.contents[number]),
-                           "status": it.status, "ended": end}).encode()
+                           "status": it.status, "ended": end, "class": it.kind}).encode()
 
 
 class Answering(http.server.BaseHTTPRequestHandler):

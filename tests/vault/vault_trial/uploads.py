@@ -1,4 +1,4 @@
-"""Uploads at once: those of one name, their bytes that no record names, and the room that each takes before it begins."""
+"""Uploads at once: those of one name, its bytes that no record names, and the room that each takes at its beginning."""
 import os
 import pathlib
 import socket
