@@ -2,13 +2,16 @@
 import { get } from "./ask.js";
 import { byId, paragraph, quiet, say } from "./page.js";
 import { jsonOf } from "./plain/outcomes.js";
+import { journaled } from "./plain/journaled.js";
 import { KINDS, READS, forbidden, unread } from "./plain/rights.js";
-import { t } from "./texts.js";
+import { replaceTexts, t } from "./texts.js";
 
 /** Whether the server said that this name may only read. A server that says nothing lets the office decide. */
 let isReader = false;
 /** The text that a gate has the office record as `by`, or an empty one if anybody may write any. */
 let signs = "";
+/** What a gate said that this name may do and read, or null without one. */
+let gated = null;
 
 /** Asks once what this name may do. */
 export async function load() {
@@ -16,6 +19,7 @@ export async function load() {
   const rights = answer.status === 200 ? jsonOf(answer) : undefined;
   isReader = rights?.acts === false;
   signs = rights?.by ?? "";
+  gated = rights?.may ? rights : null;
   document.body.classList.toggle("reader", isReader);
   byId("reason").hidden = !rights?.reasons?.length;
   const left = forbidden(rights);
@@ -26,6 +30,23 @@ export async function load() {
 
 /** The text that each act names as `by`, if a gate says so: then nobody writes another. */
 export const signedBy = () => signs;
+
+/** Whether a gate stands before the office, which has a journal. */
+export const isGated = () => gated !== null;
+
+/** Whether this name may read such a thing at all: a gate says so, and without one there is no history. */
+export const mayRead = (thing) => (gated ? thing in gated.reads : thing !== "history");
+
+/** Whether this name may do acts of this kind for something at all. */
+export const mayDo = (kind) => (gated ? kind in gated.may : !isReader);
+
+/** Whether a name that a gate knows is limited to some classes in what it reads of such a thing. */
+export const isLimited = (thing) => Array.isArray(gated?.reads[thing]);
+
+/** Has the page say what the journal of a gate records, in the place of what the office itself does not. */
+export function tellJournal() {
+  if (isGated()) replaceTexts(journaled(gated.reasons ?? []));
+}
 
 /** Whether the view that is seen has forms, and all of them are left out since the name has none of their rights. */
 function isForOthers() {

@@ -9,6 +9,7 @@ import { jsonOf } from "../plain/outcomes.js";
 import { recordsOf } from "../records.js";
 import { t } from "../texts.js";
 import { forecastOf, placeIn } from "./forecast.js";
+import { HistoryPart } from "./history.js";
 import { countLine, saveButton, targetsList } from "./targets.js";
 
 const LAST_DAY = "2999-12-31";
@@ -17,6 +18,7 @@ const MOST = 500;
 
 let asked = 0;
 let lifting = null;
+let past = null;
 
 async function holdOf(code) {
   await refresh();
@@ -45,12 +47,14 @@ export async function show(code) {
   if (mine !== asked) return;
   place.replaceChildren(made("h2", {}, t("holds.heading", { hold: code })), ...nodes);
   place.hidden = false;
+  past.tell("hold", code);
 }
 
 /** Shows no hold. */
 export function showNone() {
   asked += 1;
   byId("hold-told").hidden = true;
+  past.tell(null);
 }
 
 // ---- what lifting it would do
@@ -100,7 +104,8 @@ async function make() {
 export function start() {
   const place = made("article", { id: "hold-told", class: "sheet hold-told", role: "status" });
   place.hidden = true;
-  document.querySelector("#holds > .steps").before(place);
+  past = new HistoryPart("hold-history");
+  document.querySelector("#holds > .steps").before(place, past.node);
   const form = byId("hold-lift");
   lifting = forecastOf(form, placeIn(form, "hold-lift-forecast"), make);
 }

@@ -6,6 +6,7 @@ import { bodyOf, holdOff, holdOn, liftHold } from "../plain/acts.js";
 import { isCode } from "../plain/forms.js";
 import { fatesOf } from "../plain/outcomes.js";
 import { t } from "../texts.js";
+import * as list from "./hold_list.js";
 import * as placing from "./hold_place.js";
 import * as shown from "./hold_shown.js";
 
@@ -56,12 +57,18 @@ async function ask(name, values) {
   if (end === "unknown") say(place, "unknown", ...told(answer), paragraph(t(lost)));
   else if (answers[0]?.done) say(place, "done", paragraph(done(asked)), ...told(answer));
   else failed(place, answer);
-  if (end === "answered" && answers[0].done) after?.(asked);
+  if (end !== "answered" || !answers[0].done) return;
+  after?.(asked);
+  await list.renew();
 }
 
 export function start() {
   shown.start();
-  placing.start((code) => carry(code, ["hold-on"]));
+  list.start();
+  placing.start((code) => {
+    carry(code, ["hold-on"]);
+    return list.renew();
+  });
   for (const name of Object.keys(FORMS)) onSubmit(byId(name), (values) => ask(name, values));
   for (const form of ["hold-on", "hold-off"]) {
     const kinds = ["class", "aggregation", "record"].map((kind) => made("option", { value: kind }, t(`fields.kinds.${kind}`)));
@@ -71,6 +78,7 @@ export function start() {
 
 /** Shows the hold that the address names, and writes its code into the forms for a hold that is there. */
 export function show(words) {
+  list.renew();
   const code = words.get("code");
   if (code === null || !isCode(code)) {
     shown.showNone();

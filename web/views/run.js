@@ -8,7 +8,11 @@ import { isNumber } from "../plain/forms.js";
 import { visible } from "../plain/marks.js";
 import { fatesOf, isMissing, jsonOf } from "../plain/outcomes.js";
 import { t } from "../texts.js";
+import { HistoryPart } from "./history.js";
 import * as forecast from "./run_forecast.js";
+import * as list from "./run_list.js";
+
+let past = null;
 
 const certificateLink = (number) => link(`#certificate?number=${number}`, t("run.certificate"));
 
@@ -23,7 +27,7 @@ async function open(values) {
   if (end === "unknown") say(place, "unknown", ...told(answer), paragraph(t("run.lostOpen")));
   else if (number) {
     say(place, "done", paragraph(t("run.opened", { number })), ...told(answer));
-    await forecast.opened(number, values["run-open-day"]);
+    await Promise.all([forecast.opened(number, values["run-open-day"]), list.renew()]);
   } else failed(place, answer);
 }
 
@@ -49,7 +53,7 @@ async function resume() {
     const number = body.certificate;
     const counts = await countsOf(number);
     say(place, "done", paragraph(t("run.resumed", { number })), ...counts, paragraph(certificateLink(number)), ...told(answer));
-    await forecast.ended(number);
+    await Promise.all([forecast.ended(number), list.renew()]);
   } else {
     if (body?.refused || fatesOf(answer, 0).end === "undone") failed(place, answer);
     else say(place, "unknown", ...told(answer), paragraph(t("run.lostResume")));
@@ -61,6 +65,7 @@ async function resume() {
 async function find(number) {
   const place = byId("run-outcome");
   byId("run-number").value = number;
+  past.tell("run", number);
   asking(place);
   const answer = await get(`certificates/${number}`);
   if (isMissing(answer, "certificate")) say(place, "wrong", paragraph(t("run.notClosed", { number })), paragraph(t("run.notClosedDo")), details(answer));
@@ -73,6 +78,9 @@ async function find(number) {
 
 export function start() {
   forecast.start();
+  list.start();
+  past = new HistoryPart("run-history");
+  document.querySelector("#run > .steps").after(past.node);
   onSubmit(byId("run-open"), open);
   onSubmit(byId("run-resume"), resume);
   onSubmit(byId("run-form"), (values) => {
@@ -85,8 +93,11 @@ export function start() {
 /** Shows the run that the address names. */
 export function show(words) {
   forecast.renew();
+  list.renew();
   const number = words.get("number");
-  if (number === null) quiet(byId("run-outcome"));
-  else if (isNumber(number)) find(number);
+  if (number === null) {
+    past.tell(null);
+    quiet(byId("run-outcome"));
+  } else if (isNumber(number)) find(number);
   else say(byId("run-outcome"), "wrong", paragraph(t("fields.numberWrong")));
 }

@@ -5,6 +5,7 @@ import { asking, byId, failed, grouped, link, made, paragraph, plural, quiet, se
 import { today } from "../plain/forms.js";
 import { isMissing, jsonOf } from "../plain/outcomes.js";
 import { dueTasks } from "../plain/todo.js";
+import { mayRead } from "../rights.js";
 import { t } from "../texts.js";
 import { momentWords } from "./catalogue.js";
 import { USUAL_DAYS } from "./overdue.js";
@@ -68,7 +69,7 @@ function draw(tasks) {
   const names = tasks.filter(({ count }) => !count).map(({ name }) => t(`todo.names.${name}`)).join(" · ");
   const nothing = there.length ? [] : [made("p", { class: "nothing" }, t("todo.nothing"))];
   const none = names ? [paragraph(t("todo.none", { names }), "hint")] : [];
-  const lacks = isThere() ? [] : [paragraph(t("todo.noCatalogue"), "hint")];
+  const lacks = isThere() ? [] : [paragraph(t(mayRead("catalogue") ? "todo.noCatalogue" : "todo.noRight"), "hint")];
   byId("todo-none").replaceChildren(...nothing, ...none, ...lacks);
 }
 
