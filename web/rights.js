@@ -3,6 +3,7 @@ import { get } from "./ask.js";
 import { byId, paragraph, quiet, say } from "./page.js";
 import { jsonOf } from "./plain/outcomes.js";
 import { journaled } from "./plain/journaled.js";
+import { visible } from "./plain/marks.js";
 import { KINDS, READS, forbidden, unread } from "./plain/rights.js";
 import { replaceTexts, t } from "./texts.js";
 
@@ -42,6 +43,16 @@ export const mayDo = (kind) => (gated ? kind in gated.may : !isReader);
 
 /** Whether a name that a gate knows is limited to some classes in what it reads of such a thing. */
 export const isLimited = (thing) => Array.isArray(gated?.reads[thing]);
+
+/** Shows at the head of each view who is signed in, with the roles of that name, if a gate says so. */
+export function tellName() {
+  const place = byId("signed-in");
+  place.hidden = !isGated();
+  if (!isGated()) return;
+  const { by, name, roles = [] } = gated;
+  const words = { by: visible(by), roles: [...(by === name ? [] : [name]), ...roles.filter((it) => it !== name)].map(visible).join(", ") };
+  place.textContent = t(words.roles ? "page.signedInAs" : "page.signedIn", words);
+}
 
 /** Has the page say what the journal of a gate records, in the place of what the office itself does not. */
 export function tellJournal() {

@@ -32,6 +32,8 @@ def tried(folder: pathlib.Path) -> None:
     world.place.chmod(0o666)
     proxy.start()
     fill(proxy)
+    # what got another class within two seconds of the catalogue's moment is left out of one that is limited to classes
+    time.sleep(3.1)
     make(world)
     for language in os.environ.get("SPOKEN", " ".join(LANGUAGES)).split():
         histories(proxy, language)
@@ -85,6 +87,7 @@ def histories(proxy: Proxy, language: str) -> None:
     it = Browser(proxy, "auditor", language)
     words = texts(language, "history")
     try:
+        judge("who is signed in", "auditor" in it.one("#signed-in").text, it.one("#signed-in").text)
         it.open("record?number=1")
         unfold(it, "#record-history")
         rows = rows_of(it, "#record-history")
@@ -129,10 +132,13 @@ def sentences(proxy: Proxy, language: str) -> None:
     """Nowhere does the page say that nobody knows who did it: the journal does, and has the reason of what needs one."""
     words = texts(language, "page")
     it = Browser(proxy, "records-manager", language)
+    it.settled()
     false = [texts(language, "holds")["unrecorded"], texts(language, "run")["resumeUnrecorded"],
              texts(language, "plan")["rule"]["unrecorded"], texts(language, "fields")["noReason"],
              texts(language, "due")["confirmAbout"], texts(language, "file")["sendAbout"]]
     try:
+        same("who is signed in, with the role", it.one("#signed-in").text, words["signedInAs"].format(
+            by="R. Halloran, records manager", roles="records-manager"))
         seen = it.driver.execute_script("return document.body.textContent")
         same("none is there that is not so", [one for one in false if one in seen], [])
         judge("the journal has name and time", seen.count(words["journaled"]) > 8, seen.count(words["journaled"]))
@@ -221,6 +227,10 @@ def fresh(proxy: Proxy, language: str, mark: str) -> None:
         it.picture("run-list")
         same("carried out", proxy.ask("records-manager", "POST", "/city/run/resume", b"")[0], 200)
         it.open("todo")
+        judge("what others have to confirm is folded", it.driver.execute_script(
+            "return document.querySelector('#todo-others > .tasks [data-task=confirm]') !== null")
+            and not it.driver.execute_script("return document.querySelector('#todo-others').open"))
+        it.picture("todo")
         it.open("run")
         judge("and is closed then", rows_of(it, "#run-list")[0][3] == texts(language, "catalogue")["closedRun"])
         same("the console complains of nothing", it.complaints(), [])
