@@ -1,5 +1,6 @@
 // Requests to the paths of the office, which are in the folder above this page. Each is sent once, and no answer is kept.
 import { hear } from "./clock.js";
+import { noteDone } from "./done.js";
 import { keyFor, note } from "./plain/keys.js";
 import { isOfAnother, linesFor, noteSeen } from "./plain/seen.js";
 
@@ -65,5 +66,6 @@ export async function post(path, body, { seen = "", reason = "" } = {}) {
   const key = keyFor(sent);
   const answer = await ask(path, "POST", body, { "Idempotency-Key": key, ...reasonLine(reason) });
   note(sent, key, answer.status);
+  noteDone(path, body, answer);
   return answer;
 }

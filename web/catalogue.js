@@ -1,16 +1,29 @@
-// The catalogue that office-catalogue made, where nginx serves one: its parts are read once each, all of one moment.
+// The catalogue that office-catalogue made, where nginx serves one: its parts are read once each, all of one moment. What was
+// done since is laid over them.
 import { get } from "./ask.js";
-import { classOf, indexOf, treeOf } from "./plain/catalogue.js";
+import { DONE } from "./done.js";
+import { classOf, indexOf, positionOf, rowOf, treeOf } from "./plain/catalogue.js";
 import { Details } from "./plain/details.js";
 import { TEXTS, aggregationOrder, isOfDetails, recordOrder } from "./plain/finding.js";
 import { jsonOf } from "./plain/outcomes.js";
+import { laidOver, touchedIn } from "./plain/since.js";
+import { recordsOf } from "./records.js";
+import { isLimited } from "./rights.js";
+import { deedsSince } from "./since.js";
 import { orderOfLines, searchableText } from "./text_work.js";
+
+/** So many records that an act was about since are asked for, since their due days and holds may be others. */
+const MOST_TOUCHED = 50;
 
 /** The moment of what was read, or null where nothing was; what `about` says; its parts and what is made of them. */
 let moment = null;
 let about = null;
 let parts = new Map();
 let made = new Map();
+/** What was done since that moment; the rows of each part with that, as long as it is the same; and records as they are now. */
+let deeds = [];
+let laid = new Map();
+let touched = { deeds: null, records: [] };
 /** The last answer that was no part of a catalogue. */
 let last = null;
 
@@ -28,6 +41,7 @@ function take(body) {
   if (body?.moment !== moment) {
     parts = new Map();
     made = new Map();
+    laid = new Map();
   }
   moment = body?.moment ?? null;
   about = body?.about[0] ?? null;
@@ -35,6 +49,7 @@ function take(body) {
 
 async function lookNow() {
   take(await read("about"));
+  deeds = moment === null ? [] : await deedsSince(moment);
   return moment;
 }
 
@@ -53,6 +68,7 @@ export const isFound = async () => (await (look ?? refresh())) !== null;
 /** Whether a catalogue was there when somebody looked last. */
 export const isThere = () => moment !== null;
 export const aboutIt = () => ({ ...about, moment });
+export const doneSince = () => deeds.length;
 export const lastAnswer = () => last;
 
 /** Reads a part; where a new catalogue has come meanwhile, what was read of the one before is forgotten. */
@@ -66,9 +82,53 @@ async function readPart(name) {
   return body[name];
 }
 
-/** The rows of a part, as `classes`; null where they could not be had. */
+/** Whether this page did something since it asked what was done, and the asking that is under way. */
+let isBehind = false;
+let asking = null;
+
+/** Asks what was done since, if this page did something. */
+async function catchUp() {
+  if (isBehind) {
+    isBehind = false;
+    asking = deedsSince(moment).then((found) => (deeds = found));
+  }
+  await asking;
+}
+
+addEventListener(DONE, () => (isBehind = true));
+
+/** A part with what was done since. A list of the same acts is the same list. */
+function over(name, rows) {
+  const known = laid.get(name);
+  if (known?.rows === rows && known.deeds === deeds) return known.found;
+  const found = laidOver(name, rows, deeds, isLimited("catalogue") ? 0 : about.records);
+  laid.set(name, { rows, deeds, found });
+  return found;
+}
+
+/** The rows of a part, as `classes`, with what was done since; null where they could not be had. */
 export async function part(name) {
-  if (moment === null) return null;
+  const rows = await wasMade(name);
+  if (rows) await catchUp();
+  return rows && over(name, rows);
+}
+
+/** A part that lies in no class is not given to a name that is limited to some. */
+const isWithheld = (name) => name === "runs" && !(name in about);
+
+const ADDED = { records: "add-record", aggregations: "add-aggregation" };
+
+/** How many rows a part has by now; undefined if this name does not get it. */
+export async function countOf(name) {
+  if (!(name in about)) return undefined;
+  if (!(name in ADDED)) return (await part(name))?.length ?? about[name];
+  const numbers = deeds.filter(({ act, answer }) => act.act === ADDED[name] && !answer.same).map(({ answer }) => answer.number);
+  return isLimited("catalogue") ? about[name] + numbers.length : Math.max(about[name], ...numbers);
+}
+
+/** The rows of a part as they were made. */
+async function wasMade(name) {
+  if (moment === null || isWithheld(name)) return null;
   if (!parts.has(name)) parts.set(name, readPart(name));
   const asked = parts.get(name);
   try {
@@ -98,12 +158,25 @@ export const tree = () => ofPart("tree", "aggregations", treeOf);
 /** Makes ready what a search for words goes through: a search that comes before this is done waits for it. */
 export const makeReady = (index) => index.ready(searchableText);
 
+/** The records that an act was about since, as the office reports each now. */
+async function touchedRecords() {
+  if (touched.deeds !== deeds) touched = { deeds, records: recordsOf(touchedIn(deeds), MOST_TOUCHED) };
+  return (await touched.records) ?? [];
+}
+
 /** What the office reports of each record beside that: days, class, schedule, length, due day and hold; null if it is not there. */
 export async function details() {
-  const coded = await Promise.all(["classes", "schedules", "holds"].map((name) => part(name)));
-  if (coded.includes(null)) return null;
-  const codes = coded.map((rows) => rows.map(({ code }) => code));
-  return ofPart("details", "details", (columns) => new Details(columns, ...codes));
+  const coded = await Promise.all(["classes", "schedules", "holds"].map((name) => wasMade(name)));
+  const [columns, rows] = await Promise.all([wasMade("details"), part("records")]);
+  if (coded.includes(null) || !columns || !rows) return null;
+  const known = made.get("details");
+  const now = await touchedRecords();
+  if (known?.rows === rows && known.now === now) return known.what;
+  const what = new Details(columns, ...coded.map((list) => list.map(({ code }) => code)));
+  if (now.length || columns[0].length < rows.length) what.grow(rows.length);
+  for (const it of now) what.put(positionOf(rows, it.number), it);
+  made.set("details", { rows, now, what });
+  return what;
 }
 
 /** The years in which records originated. */
@@ -120,7 +193,7 @@ const NAMES = {
 export const numberOf = async (name, ref) => (await NAMES[name]())?.get(ref);
 
 /** The record or aggregation of this number, as its part has it; undefined if there is none. */
-export const numbered = async (name, number) => (await part(name))?.[number - 1];
+export const numbered = async (name, number) => rowOf((await part(name)) ?? [], number);
 
 /** The records in their order by a column, or null for the order of their numbers. */
 export async function recordsBy(column) {
@@ -130,7 +203,8 @@ export async function recordsBy(column) {
   if (column in TEXTS) return ofPart(key, "records", (rows) => orderOfLines(rows.map(TEXTS[column]).join("\n")));
   if (!isOfDetails(column)) return ofPart(key, "records", () => recordOrder(index, null, column));
   const known = await details();
-  return ofPart(key, "details", () => recordOrder(index, known, column));
+  if (made.get(key)?.known !== known) made.set(key, { known, what: recordOrder(index, known, column) });
+  return made.get(key).what;
 }
 
 /** The same of aggregations. */

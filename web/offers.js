@@ -1,7 +1,7 @@
 // Codes and numbers of the catalogue, offered in the fields of all forms. Without a catalogue nothing is offered.
 import { aggregations, isThere, makeReady, part, records, refresh } from "./catalogue.js";
 import { made } from "./page.js";
-import { search } from "./plain/catalogue.js";
+import { firstFrom, numberIn, search } from "./plain/catalogue.js";
 import { visible } from "./plain/marks.js";
 import { t } from "./texts.js";
 import { scheduleWords } from "./views/catalogue_tables.js";
@@ -55,8 +55,10 @@ async function numbered(index, text, of) {
   const { rows } = index;
   const begun = [];
   if (/^[1-9]\d*$/.test(text)) {
-    for (let [low, count] = [Number(text), 1]; low <= rows.length; low *= 10, count *= 10) {
-      begun.push(...rows.slice(low - 1, Math.min(low - 1 + count, low - 1 + MOST)));
+    const last = rows.length ? numberIn(rows.at(-1)) : 0;
+    for (let [low, count] = [Number(text), 1]; low <= last; low *= 10, count *= 10) {
+      const from = firstFrom(rows, low);
+      begun.push(...rows.slice(from, Math.min(firstFrom(rows, low + count), from + MOST)));
     }
   }
   const others = search(index, text, MOST).found;

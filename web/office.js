@@ -97,6 +97,8 @@ function addLinks() {
 async function begin() {
   await Promise.all([load(navigator.languages), officeName.load(), rights.load()]);
   document.documentElement.lang = all().lang;
+  rights.tellJournal();
+  rights.tellName();
   for (const place of document.querySelectorAll("[data-field]")) field(place);
   addLinks();
   translate(document);

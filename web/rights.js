@@ -2,8 +2,10 @@
 import { get } from "./ask.js";
 import { byId, paragraph, quiet, say } from "./page.js";
 import { jsonOf } from "./plain/outcomes.js";
+import { journaled } from "./plain/journaled.js";
+import { visible } from "./plain/marks.js";
 import { KINDS, READS, forbidden, unread } from "./plain/rights.js";
-import { t } from "./texts.js";
+import { replaceTexts, t } from "./texts.js";
 
 /** Whether the server said that this name may only read. A server that says nothing lets the office decide. */
 let isReader = false;
@@ -11,6 +13,8 @@ let isReader = false;
 let signs = "";
 /** The kinds of acts that need a reason at this office. */
 let reasons = new Set();
+/** What a gate said that this name may do and read, or null without one. */
+let gated = null;
 
 /** Asks once what this name may do. */
 export async function load() {
@@ -18,6 +22,7 @@ export async function load() {
   const rights = answer.status === 200 ? jsonOf(answer) : undefined;
   isReader = rights?.acts === false;
   signs = rights?.by ?? "";
+  gated = rights?.may ? rights : null;
   document.body.classList.toggle("reader", isReader);
   reasons = new Set(rights?.reasons ?? []);
   const left = forbidden(rights);
@@ -31,6 +36,32 @@ export const signedBy = () => signs;
 
 /** Whether one of these kinds of acts needs a reason. */
 export const needsReason = (kinds) => kinds.some((kind) => reasons.has(kind));
+/** Whether a gate stands before the office, which has a journal. */
+export const isGated = () => gated !== null;
+
+/** Whether this name may read such a thing at all: a gate says so, and without one there is no history. */
+export const mayRead = (thing) => (gated ? thing in gated.reads : thing !== "history");
+
+/** Whether this name may do acts of this kind for something at all. */
+export const mayDo = (kind) => (gated ? kind in gated.may : !isReader);
+
+/** Whether a name that a gate knows is limited to some classes in what it reads of such a thing. */
+export const isLimited = (thing) => Array.isArray(gated?.reads[thing]);
+
+/** Shows at the head of each view who is signed in, with the roles of that name, if a gate says so. */
+export function tellName() {
+  const place = byId("signed-in");
+  place.hidden = !isGated();
+  if (!isGated()) return;
+  const { by, name, roles = [] } = gated;
+  const words = { by: visible(by), roles: [...(by === name ? [] : [name]), ...roles.filter((it) => it !== name)].map(visible).join(", ") };
+  place.textContent = t(words.roles ? "page.signedInAs" : "page.signedIn", words);
+}
+
+/** Has the page say what the journal of a gate records, in the place of what the office itself does not. */
+export function tellJournal() {
+  if (isGated()) replaceTexts(journaled(gated.reasons ?? []));
+}
 
 /** Whether the view that is seen has forms, and all of them are left out since the name has none of their rights. */
 function isForOthers() {

@@ -24,6 +24,16 @@ export async function load(languages) {
 
 export const all = () => texts;
 
+/** Puts other texts in the place of some: by their names, each with the names of those that say it in their place. */
+export function replaceTexts(changes) {
+  for (const [key, keys] of changes) {
+    const names = key.split(".");
+    const last = names.pop();
+    const part = names.reduce((it, name) => it[name], texts);
+    part[last] = keys.map((it) => t(it)).join(" ");
+  }
+}
+
 /** A text with the values at its places, which are written {name}. */
 export function t(key, values = {}) {
   const text = key.split(".").reduce((part, name) => part?.[name], texts);

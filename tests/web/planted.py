@@ -163,7 +163,7 @@ AT_ONCE = (
             "hold: by one array of acts", True),
     Mistake("what is done stays marked", "views/catalogue.js", "for (const number of numbers) found.marks.set(number, false);", "",
             "hold: what is done is not marked any more"),
-    Mistake("a list has no titles", "views/titles.js", "return rows && ((record) => rows[record - 1]?.[2] ?? null);", "return rows && (() => null);",
+    Mistake("a list has no titles", "views/titles.js", "return rows && ((record) => rowOf(rows, record)?.[2] ?? null);", "return rows && (() => null);",
             "review: the list has titles"),
     Mistake("a file is closed before what is in it", "plain/marked_acts.js", "other.number - one.number", "one.number - other.number",
             "close: the one within goes first", True),
@@ -243,4 +243,17 @@ TRAPS = (
             "run: who may only read is offered no act"),
 )
 
-MISTAKES = {"forecast": FORECAST, "forms": FORMS, "todo": TODO, "at_once": AT_ONCE, "traps": TRAPS}
+FRESH = (
+    Mistake("what this page did is in no list", "done.js", "  done.push(...found);\n", "", "fresh: a hold that was placed stands in the list", True),
+    Mistake("a hold that was lifted stays in force", "plain/since.js", '"lift-hold": { holds:', '"lift-holds": { holds:',
+            "fresh: a lifted one is below", True),
+    Mistake("a target that was put on is not shown", "plain/since.js", "[...without(it.targets, act.target), act.target]", "it.targets",
+            "fresh: and in the catalogue, with its target and that one's title", True),
+    Mistake("a class that was added is not there", "plain/since.js", '"add-class": { classes:', '"add-class": { none:',
+            "fresh: a class that was added"),
+    Mistake("a new file has no ref", "plain/since.js", '"add-aggregation": { aggregations:', '"add-aggregation": { none:',
+            "fresh: its file is known by its ref"),
+    Mistake("a history is offered without a gate", "rights.js", 'thing !== "history"', "true", "fresh: no history without a gate"),
+)
+
+MISTAKES = {"fresh": FRESH, "forecast": FORECAST, "forms": FORMS, "todo": TODO, "at_once": AT_ONCE, "traps": TRAPS}

@@ -115,6 +115,29 @@ export function search(index, question, most, takes = () => true) {
   return { count: found.length, found: found.slice(0, most).map((at) => rows[at]) };
 }
 
+/** The number of a row: a record is a list, an aggregation an object. */
+export const numberIn = (row) => (Array.isArray(row) ? row[0] : row.number);
+
+/** The position of the first row whose number is this one or above, among rows in the order of their numbers. */
+export function firstFrom(rows, number) {
+  let [low, high] = [0, Math.min(rows.length, number)];
+  while (low < high) {
+    const middle = (low + high) >> 1;
+    if (numberIn(rows[middle]) < number) low = middle + 1;
+    else high = middle;
+  }
+  return low;
+}
+
+/** The position of a number, or -1. A whole catalogue has each number; one that is limited to classes has some. */
+export function positionOf(rows, number) {
+  const at = rows[number - 1] && numberIn(rows[number - 1]) === number ? number - 1 : firstFrom(rows, number);
+  return rows[at] && numberIn(rows[at]) === number ? at : -1;
+}
+
+/** The row of a number, or undefined. */
+export const rowOf = (rows, number) => rows[positionOf(rows, number)];
+
 export const STATUSES = ["here", "sent", "received", "ended"];
 
 /**

@@ -22,6 +22,38 @@ export class Details {
     // a catalogue that an older program made does not have the last one
     this.columns = Object.fromEntries(COLUMNS.map((name, at) => [name, columns[at] ?? []]));
     this.codes = { class: classes, schedule: schedules, held: holds };
+    this.known = this.columns.originated.length;
+    this.asked = new Set();
+  }
+
+  /** Whether anything is known of the record at a position: of what was filed since the catalogue only what was asked for. */
+  has(at) {
+    return (at >= 0 && at < this.known) || this.asked.has(at);
+  }
+
+  /** Makes columns of its own, with room for so many records. */
+  grow(count) {
+    for (const name of COLUMNS) {
+      const column = this.columns[name];
+      if (column.length) this.columns[name] = [...column, ...Array(count - column.length).fill(null)];
+    }
+    this.codes = Object.fromEntries(Object.entries(this.codes).map(([name, codes]) => [name, [...codes]]));
+  }
+
+  /** Takes what the office reports of a record now, into columns of its own. */
+  put(at, record) {
+    if (at < 0) return;
+    this.asked.add(at);
+    for (const name of COLUMNS) if (this.columns[name].length) this.columns[name][at] = this.#numberOf(name, record[name] ?? null);
+  }
+
+  /** A detail as its column has it. */
+  #numberOf(name, value) {
+    if (value === null) return null;
+    if (DAYS.includes(name)) return numberOfDay(value);
+    if (!(name in this.codes)) return value;
+    if (!this.codes[name].includes(value)) this.codes[name].push(value);
+    return this.codes[name].indexOf(value);
   }
 
   /** How many records that are here the office names this hold for; null if the catalogue does not say it. */
@@ -46,7 +78,7 @@ export class Details {
 
   /** The years in which records originated, the last one first. */
   years() {
-    const days = new Set(this.columns.originated);
+    const days = new Set(this.columns.originated.filter((day) => day !== null));
     return [...new Set([...days].map((day) => dayOf(day).slice(0, 4)))].sort().reverse();
   }
 }

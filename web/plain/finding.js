@@ -1,5 +1,5 @@
 // What is found of the catalogue's records: by words, status, class, schedule, year and due day, in any order.
-import { folded, positions } from "./catalogue.js";
+import { folded, positionOf, positions } from "./catalogue.js";
 import { numberOfDay } from "./details.js";
 
 /**
@@ -42,11 +42,13 @@ export const wantsDetails = ({ class: code, schedule, year, due }) => Boolean(co
 export const isOfDetails = (column) => ["class", "schedule", "due"].includes(column);
 
 /** A function of a position that says whether the details are as they are asked for. */
-function detailsTaker({ columns, codes }, { class: code, schedule, year, due }) {
+function detailsTaker(details, { class: code, schedule, year, due }) {
+  const { columns, codes } = details;
   const [ofClass, ofSchedule] = [codes.class.indexOf(code), codes.schedule.indexOf(schedule)];
   const [first, last] = year ? [numberOfDay(`${year}-01-01`), numberOfDay(`${year}-12-31`)] : [0, 0];
   const until = due && due !== NO_DUE ? numberOfDay(due) : 0;
   return (at) => {
+    if (!details.has(at)) return false;
     if (code && columns.class[at] !== ofClass) return false;
     if (schedule && columns.schedule[at] !== ofSchedule) return false;
     if (year && !(columns.originated[at] >= first && columns.originated[at] <= last)) return false;
@@ -114,10 +116,10 @@ export function inOrder(found, order, isDown) {
 }
 
 /** Puts the one whose number is asked for outright first. */
-function withNumber(found, { rows }, asked, takes, numberOf) {
-  const number = Number(asked.text);
-  if (!/^[1-9]\d*$/.test(asked.text) || !rows[number - 1] || numberOf(rows[number - 1]) !== number || !takes(number - 1)) return found;
-  return [number - 1, ...found.filter((at) => at !== number - 1)];
+function withNumber(found, { rows }, asked, takes) {
+  const place = /^[1-9]\d*$/.test(asked.text) ? positionOf(rows, Number(asked.text)) : -1;
+  if (place < 0 || !takes(place)) return found;
+  return [place, ...found.filter((at) => at !== place)];
 }
 
 /**
@@ -132,7 +134,7 @@ function withNumber(found, { rows }, asked, takes, numberOf) {
 export function findRecords(index, details, asked, order, isDown) {
   const takes = takerOf(index, details, asked);
   const found = inOrder(positions(index, asked.text, takes), order, isDown);
-  return withNumber(found, index, asked, takes, ([number]) => number);
+  return withNumber(found, index, asked, takes);
 }
 
 /** The same of aggregations, by words, class in effect and whether they are open. */
@@ -141,7 +143,7 @@ export function findAggregations(index, asked, classOf, order, isDown) {
   const takes = (at) =>
     (!asked.state || (asked.state === "open") === (rows[at].closed === null)) && (!asked.class || classOf(rows[at]) === asked.class);
   const found = inOrder(positions(index, asked.text, takes), order, isDown);
-  return withNumber(found, index, asked, takes, ({ number }) => number);
+  return withNumber(found, index, asked, takes);
 }
 
 export const AGGREGATION_COLUMNS = ["number", "ref", "title", "class", "closed"];

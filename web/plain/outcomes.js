@@ -16,7 +16,13 @@ export function statusRow(texts, status, word) {
   return [...texts.statuses, ...texts.members].find(fits);
 }
 
-const refusal = (texts, number) => ({ key: "said.refusal", number, ...texts.refusals[number] });
+/** What to do in this page, if the words for everybody send people to a page of the manual, or speak to programs. */
+function forPeople(texts, part, name) {
+  const words = texts.help?.[part]?.[name];
+  return words ? { do: words } : {};
+}
+
+const refusal = (texts, number) => ({ key: "said.refusal", number, ...texts.refusals[number], ...forPeople(texts, "refusals", number) });
 const fault = (texts, number) => ({ key: "said.fault", number, ...texts.faults[number] });
 
 /** What a body of JSON means: each refusal among answers once; an error, with the refusal of an act that does not read; or a fault. */
@@ -44,8 +50,9 @@ export const isOfOffice = (texts, answer) => isSuccess(answer) || explainedOffic
 
 /** The explanation of an answer of the proxy: by the word of its body if there is one for that, else by its status. */
 function explainedProxy(texts, answer) {
-  const word = jsonOf(answer)?.error;
-  return texts.proxy[`${answer.status} ${word}`] ?? texts.proxy[answer.status];
+  const names = [`${answer.status} ${jsonOf(answer)?.error}`, String(answer.status)];
+  const name = names.find((it) => it in texts.proxy);
+  return name && { ...texts.proxy[name], ...forPeople(texts, "proxy", name) };
 }
 
 /** The explanations of an answer, each with a meaning and with what to do; none where nothing is known of it. */

@@ -18,7 +18,7 @@ export function forbidden(rights) {
 }
 
 /** What can be read. */
-export const READS = ["records", "contents", "lists", "certificates", "catalogue"];
+export const READS = ["records", "contents", "lists", "certificates", "catalogue", "history"];
 
 /**
  * What a name may not read at all, in the same way.

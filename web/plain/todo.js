@@ -50,6 +50,31 @@ export function idleFor(idle, day, months) {
   return idle.filter(([, last]) => last === null || last < before);
 }
 
+/** The kinds of acts of which a name needs one to do something about a task. */
+const RIGHTS = {
+  run: ["resume"],
+  overdue: ["confirm", "review"],
+  confirm: ["confirm"],
+  review: ["review"],
+  ready: ["open-run", "resume"],
+  sent: ["receipt"],
+  received: ["open-run", "resume"],
+  waiting: ["event"],
+  idle: ["close-aggregation"],
+  holds: ["lift-hold"],
+};
+
+/**
+ * Parts tasks into those of a name and those of others. Who may do nothing at all has them all.
+ * @param {{ name: string }[]} tasks
+ * @param {function(string): boolean} mayDo whether the name may do acts of a kind
+ */
+export function ownTasks(tasks, mayDo) {
+  const isOwn = ({ name }) => RIGHTS[name].some(mayDo);
+  if (!Object.values(RIGHTS).flat().some(mayDo)) return { own: tasks, others: [] };
+  return { own: tasks.filter(isOwn), others: tasks.filter((it) => !isOwn(it)) };
+}
+
 /** Holds in force that were placed a year ago or earlier. */
 export function oldHolds(holds, day) {
   const before = monthsBefore(day, 12);

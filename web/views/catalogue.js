@@ -1,14 +1,16 @@
 // The catalogue: records and aggregations, searched as one types; classes, schedules, holds and runs as lists.
-import { aboutIt, lastAnswer, makeReady, part, records, refresh } from "../catalogue.js";
+import { aboutIt, countOf, doneSince, lastAnswer, makeReady, part, records, refresh } from "../catalogue.js";
 import { serverNow } from "../clock.js";
 import { asking, byId, failed, grouped, link, made, paragraph, plural, quiet, say } from "../page.js";
 import { isDay, today } from "../plain/forms.js";
 import { NO_DUE } from "../plain/finding.js";
 import { visible } from "../plain/marks.js";
+import { isLimited, mayRead } from "../rights.js";
 import { t } from "../texts.js";
 import { FILTERS, FIRST, FoundAggregations, FoundRecords, MORE, MOST, fillChoices, saveFound } from "./catalogue_found.js";
 import { addressOf, listOf } from "./catalogue_tables.js";
 import { treeList } from "./catalogue_tree.js";
+import { HistoryPart } from "./history.js";
 import { MarkedBar } from "./marked.js";
 
 const PARTS = ["records", "aggregations", "classes", "schedules", "holds", "runs"];
@@ -27,6 +29,8 @@ let soon = 0;
 
 const FOUND = { records: new FoundRecords(() => tellMarks()), aggregations: new FoundAggregations(() => tellMarks()) };
 const BARS = {};
+/** The history of the aggregation whose records are shown. */
+let past = null;
 
 /** What is searched in the part that is shown, or undefined. */
 const foundOf = () => FOUND[asked.part];
@@ -56,13 +60,17 @@ export function momentWords() {
   return made("time", { datetime: moment }, t("catalogue.moment", { moment: clockOf(moment), age }));
 }
 
-const tellMoment = () =>
-  byId("catalogue-moment").replaceChildren(momentWords(), ` ${t("catalogue.day", { day: aboutIt().day })}`);
+function tellMoment() {
+  const words = [t("catalogue.day", { day: aboutIt().day })];
+  if (doneSince()) words.push(plural("catalogue.since", doneSince()));
+  if (isLimited("catalogue")) words.push(t("catalogue.own"));
+  byId("catalogue-moment").replaceChildren(momentWords(), ` ${words.join(" ")}`);
+}
 
-function tellParts() {
-  const about = aboutIt();
-  const links = PARTS.map((name) => {
-    const words = t("catalogue.choice", { part: t(`catalogue.parts.${name}`), count: grouped(about[name]) });
+async function tellParts() {
+  const counts = new Map(await Promise.all(PARTS.map(async (name) => [name, await countOf(name)])));
+  const links = PARTS.filter((name) => counts.get(name) !== undefined).map((name) => {
+    const words = t("catalogue.choice", { part: t(`catalogue.parts.${name}`), count: grouped(counts.get(name)) });
     const it = link(`#catalogue?part=${name}`, words);
     if (name === asked.part) it.setAttribute("aria-current", "true");
     return made("li", {}, it);
@@ -116,7 +124,8 @@ function tellMarks() {
 
 /** Says in which aggregation alone the records are looked for, and leads to all of them. */
 function tellWithin(it) {
-  if (!it) return;
+  if (!it) return past.tell(null);
+  past.keep("aggregation", it.number);
   const words = t("catalogue.within", { number: it.number, ref: visible(it.ref), title: visible(it.title) });
   select("within").replaceChildren(paragraph(words), link("#catalogue?part=records", t("catalogue.everywhere")));
 }
@@ -178,6 +187,7 @@ function tellNone() {
   byId("catalogue-there").hidden = true;
   const place = byId("catalogue-outcome");
   const answer = lastAnswer();
+  if (!mayRead("catalogue")) return say(place, "unknown", paragraph(t("catalogue.unread")), paragraph(t("catalogue.unreadDo")));
   if (answer && ![200, 404].includes(answer.status)) return failed(place, answer);
   return say(place, "unknown", paragraph(t("catalogue.missing")), paragraph(t("catalogue.missingDo")));
 }
@@ -227,6 +237,7 @@ async function draw() {
   }
   quiet(byId("catalogue-outcome"));
   select("within").replaceChildren();
+  if (asked.part !== "records") past.tell(null);
   place.replaceChildren(...tell());
   tellTools();
   await fillDetails(mine);
@@ -312,6 +323,8 @@ export function start() {
     byId("catalogue-panel").append(BARS[name].node);
   }
   startTools();
+  past = new HistoryPart("catalogue-history");
+  select("within").after(past.node);
   addEventListener("beforeprint", beforePaper);
 }
 

@@ -1,7 +1,7 @@
 // What is found in the catalogue's records or aggregations: its filters, its order, its table and what is marked of it.
 import { aggregations, aggregationsBy, details, makeReady, part, records, recordsBy, tree, years } from "../catalogue.js";
 import { byId, grouped, made, save } from "../page.js";
-import { STATUSES, above, classOf } from "../plain/catalogue.js";
+import { STATUSES, above, classOf, numberIn, positionOf, rowOf } from "../plain/catalogue.js";
 import { csvOf, formulasIn } from "../plain/csv.js";
 import { NO_DETAILS } from "../plain/details.js";
 import {
@@ -94,7 +94,7 @@ class Found {
 
   /** The numbers of all that is found. */
   numbers() {
-    return this.found.map((at) => at + 1);
+    return this.found.map((at) => numberIn(this.rows[at]));
   }
 
   /** How many of these are marked. */
@@ -167,8 +167,8 @@ export class FoundRecords extends Found {
 
   async items() {
     const rows = (await part("records")) ?? [];
-    return this.marks.numbers.filter((number) => rows[number - 1]).map((number) => {
-      const [, ref, title, , status] = rows[number - 1];
+    return this.marks.numbers.filter((number) => rowOf(rows, number)).map((number) => {
+      const [, ref, title, , status] = rowOf(rows, number);
       return { kind: "record", number, ref, title, status };
     });
   }
@@ -180,8 +180,9 @@ export class FoundRecords extends Found {
     const order = await tree();
     const header = ["record", "ref", "title", "originated", "added", "aggregation", "aggregationRef", "class", "schedule", "length", "due", "status"];
     const cells = numbers.map((number) => {
-      const [, ref, title, aggregation, status] = rows[number - 1];
-      const it = known?.at(number - 1) ?? NO_DETAILS;
+      const place = positionOf(rows, number);
+      const [, ref, title, aggregation, status] = rows[place];
+      const it = known?.at(place) ?? NO_DETAILS;
       const within = order.byNumber.get(aggregation)?.ref;
       return [number, ref, title, it.originated, it.added, aggregation, within, it.class, it.schedule, it.length, it.due, t(`catalogue.statuses.${status}`)];
     });
@@ -233,8 +234,8 @@ export class FoundAggregations extends Found {
 
   async items() {
     const rows = (await part("aggregations")) ?? [];
-    return this.marks.numbers.filter((number) => rows[number - 1]).map((number) => {
-      const { ref, title, closed } = rows[number - 1];
+    return this.marks.numbers.filter((number) => rowOf(rows, number)).map((number) => {
+      const { ref, title, closed } = rowOf(rows, number);
       return { kind: "aggregation", number, ref, title, closed };
     });
   }

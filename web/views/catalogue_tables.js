@@ -65,7 +65,9 @@ function targetsOf(hold) {
 }
 
 const holdLink = ({ code }) => link(`#holds?code=${code}`, code);
-const runLink = ({ number, closed }) => (closed ? link(`#certificate?number=${number}`, number) : number);
+const runLink = ({ number, closed }) => (closed ? link(`#certificate?number=${number}`, number) : link("#run", number));
+/** A count, or nothing for a run that was closed since the catalogue. */
+const counted = (count) => (count === null ? "" : grouped(count));
 const stateOf = (run) => t(run.closed ? "catalogue.closedRun" : "catalogue.openRun");
 
 /** The lists: their columns, and the cells of a row. */
@@ -84,11 +86,11 @@ const LISTS = {
   },
   runs: {
     columns: ["run", "day", "by", "state", "ended", "sent", "skipped"],
-    cells: (it) => [runLink(it), it.day, visible(it.by), stateOf(it), ...[it.ended, it.sent, it.skipped].map(grouped)],
+    cells: (it) => [runLink(it), it.day, visible(it.by), stateOf(it), ...[it.ended, it.sent, it.skipped].map(counted)],
   },
 };
 
-export function listOf(part, rows) {
+export function listOf(part, rows, caption = t(`catalogue.parts.${part}`)) {
   const { columns, cells } = LISTS[part];
-  return tableOf(t(`catalogue.parts.${part}`), columns.map(word), rows.map(cells), `found ${part}`);
+  return tableOf(caption, columns.map(word), rows.map(cells), `found ${part}`);
 }

@@ -9,6 +9,7 @@ import { jsonOf } from "../plain/outcomes.js";
 import { recordsOf } from "../records.js";
 import { t } from "../texts.js";
 import { forecastOf, placeIn } from "./forecast.js";
+import { HistoryPart } from "./history.js";
 import { countLine, saveButton, targetsList } from "./targets.js";
 
 const LAST_DAY = "2999-12-31";
@@ -17,6 +18,7 @@ const MOST = 500;
 
 let asked = 0;
 let lifting = null;
+let past = null;
 
 async function holdOf(code) {
   await refresh();
@@ -46,6 +48,7 @@ export async function show(code) {
   place.replaceChildren(made("h2", { id: "hold-heading" }, t("holds.heading", { hold: code })), ...nodes);
   place.hidden = false;
   byId("hold-status").textContent = hold ? t("holds.isShown", { hold: code }) : t("holds.unseen");
+  past.tell("hold", code);
 }
 
 /** Shows no hold. */
@@ -53,6 +56,7 @@ export function showNone() {
   asked += 1;
   byId("hold-told").hidden = true;
   byId("hold-status").textContent = "";
+  past.tell(null);
 }
 
 // ---- what lifting it would do
@@ -103,7 +107,8 @@ export function start() {
   const place = made("article", { id: "hold-told", class: "sheet hold-told", "aria-labelledby": "hold-heading" });
   place.hidden = true;
   const status = made("p", { id: "hold-status", class: "inner", role: "status" });
-  document.querySelector("#holds > .steps").before(status, place);
+  past = new HistoryPart("hold-history");
+  document.querySelector("#holds > .steps").before(status, place, past.node);
   const form = byId("hold-lift");
   lifting = forecastOf(form, placeIn(form, "hold-lift-forecast"), make);
 }

@@ -6,6 +6,7 @@ import { isCode } from "../plain/forms.js";
 import { fatesOf } from "../plain/outcomes.js";
 import { askReason, forgetReason, senderOf } from "../reasons.js";
 import { t } from "../texts.js";
+import * as list from "./hold_list.js";
 import * as placing from "./hold_place.js";
 import * as shown from "./hold_shown.js";
 import { markMissing } from "./no_such.js";
@@ -64,13 +65,19 @@ async function ask(name, values) {
   const isDone = end === "answered" && Boolean(answers[0].done);
   if (answers[0]?.refused) await markMissing(form, answers[0].refused);
   if (isDone || end === "unknown") untick(form);
-  if (isDone) forgetReason(form);
-  return isDone ? after?.(asked) : null;
+  if (!isDone) return;
+  forgetReason(form);
+  after?.(asked);
+  await list.renew();
 }
 
 export function start() {
   shown.start();
-  placing.start((code) => carry(code, ["hold-on"]));
+  list.start();
+  placing.start((code) => {
+    carry(code, ["hold-on"]);
+    return list.renew();
+  });
   for (const [name, kind] of Object.entries(KINDS)) askReason(byId(name), kind);
   for (const name of Object.keys(FORMS)) onSubmit(byId(name), (values) => ask(name, values));
   for (const form of ["hold-on", "hold-off"]) {
@@ -81,6 +88,7 @@ export function start() {
 
 /** Shows the hold that the address names, and writes its code into the forms for a hold that is there. */
 export function show(words) {
+  list.renew();
   const code = words.get("code");
   if (code === null || !isCode(code)) {
     shown.showNone();

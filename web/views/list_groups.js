@@ -1,6 +1,7 @@
 // A list by aggregations: the rows of each together, below its ref and title, as far as the catalogue has them.
 import { records, tree } from "../catalogue.js";
 import { link, made, plural } from "../page.js";
+import { rowOf } from "../plain/catalogue.js";
 import { grouped } from "../plain/lists.js";
 import { visible } from "../plain/marks.js";
 import { t } from "../texts.js";
@@ -26,7 +27,7 @@ function headingOf(it, rows, width, mark) {
 export async function byAggregation(width, mark) {
   const [index, order] = [await records(), await tree()];
   if (!index || !order) return null;
-  const numberOf = ({ record }) => index.rows[record - 1]?.[3] ?? null;
+  const numberOf = ({ record }) => rowOf(index.rows, record)?.[3] ?? null;
   const aggregationOf = (number) => order.byNumber.get(number);
   return {
     groupsOf: (rows) => grouped(rows, numberOf).map(({ key, rows: own }) => ({ heading: headingOf(aggregationOf(key), own, width, mark), rows: own })),

@@ -4,6 +4,7 @@ import { aboutIt, aggregations, details, part, records, refresh, tree } from "..
 import { clear } from "../fields.js";
 import { byId, grouped, link, made, paragraph, plural, tableOf } from "../page.js";
 import { classesWith, isOwnClass, schedulesWith } from "../own_plan.js";
+import { positionOf, rowOf } from "../plain/catalogue.js";
 import { closeForecast, ruleForecast } from "../plain/forecast.js";
 import { isCode, isDay, isNumber, today } from "../plain/forms.js";
 import { visible } from "../plain/marks.js";
@@ -59,7 +60,7 @@ async function makeClosing() {
   if (!isNumber(String(number))) return nothing;
   if ((await refresh()) === null) return noCatalogue();
   const [index, order] = [await aggregations(), await tree()];
-  const it = index?.rows[number - 1];
+  const it = rowOf(index?.rows ?? [], number);
   if (!it) return { seen: "", nodes: [paragraph(t("forecast.close.unseen", { number }), "grave")] };
   const children = openIn(order, number);
   const numbers = await recordsIn(number);
@@ -123,8 +124,8 @@ function fallenList(fallen) {
  */
 async function startsOf(rows, trigger) {
   const [index, known] = trigger === "event" ? [null, null] : [await records(), await details()];
-  const has = (number) => Boolean(known && index?.rows[number - 1]);
-  const ofCatalogue = (number) => ({ number, aggregation: index.rows[number - 1][3], ...known.at(number - 1) });
+  const has = (number) => Boolean(known && index && known.has(positionOf(index.rows, number)));
+  const ofCatalogue = (number) => ({ number, aggregation: rowOf(index.rows, number)[3], ...known.at(positionOf(index.rows, number)) });
   const numbers = rows.map(({ record }) => record);
   const asked = await recordsOf(numbers.filter((number) => !has(number)), MOST);
   return asked && [...numbers.filter(has).map(ofCatalogue), ...asked];
@@ -175,7 +176,7 @@ export const ofRule = seenOf("rule");
 
 /** What a closed aggregation is called, in the answer; then the form is for another one. What keeps it open is said too. */
 export async function closed(act, fate) {
-  const it = (await aggregations())?.rows[act.aggregation - 1];
+  const it = rowOf((await aggregations())?.rows ?? [], act.aggregation);
   const place = byId("plan-close-outcome");
   if (it && fate === "refused") place.append(...openWords(openIn(await tree(), it.number)));
   if (fate !== "done") return;

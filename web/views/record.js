@@ -15,9 +15,11 @@ import { factsOf as catalogueFacts, neighboursOf, receiptOf } from "./record_cat
 import * as content from "./record_content.js";
 import * as event from "./record_event.js";
 import * as files from "./record_files.js";
+import { HistoryPart } from "./history.js";
 
 let shown = null;
 let asked = 0;
+let past = null;
 
 const line = (key, parts) => made("p", {}, ...sentence(key, parts));
 const certificateLink = (run) => link(`#certificate?number=${run}`, run);
@@ -91,6 +93,7 @@ function tell(record, rule) {
   event.offer(record, rule);
   acts.offer(record);
   tellMore(record, rule);
+  past.tell("record", record.number);
   byId("record-told").hidden = false;
 }
 
@@ -130,6 +133,8 @@ export function start() {
   content.start();
   event.start(readAnew);
   acts.start(readAnew, () => shown);
+  past = new HistoryPart("record-history");
+  byId("record-told").append(past.node);
   onSubmit(byId("record-form"), (values) => {
     const address = `#record?number=${values["record-number"]}`;
     if (location.hash === address) return open(values["record-number"]);

@@ -9,7 +9,11 @@ import { visible } from "../plain/marks.js";
 import { fatesOf, isMissing, jsonOf } from "../plain/outcomes.js";
 import { askReason, forgetReason, reasonOf, senderOf } from "../reasons.js";
 import { t } from "../texts.js";
+import { HistoryPart } from "./history.js";
 import * as forecast from "./run_forecast.js";
+import * as list from "./run_list.js";
+
+let past = null;
 
 const certificateLink = (number) => link(`#certificate?number=${number}`, t("run.certificate"));
 
@@ -26,7 +30,7 @@ async function open(values) {
   else if (number) {
     forgetReason(form);
     say(place, "done", paragraph(t("run.opened", { number })), ...told(answer));
-    await forecast.opened(number, values["run-open-day"]);
+    await Promise.all([forecast.opened(number, values["run-open-day"]), list.renew()]);
   } else failed(place, answer);
 }
 
@@ -66,7 +70,7 @@ async function resume() {
     // that it is open is no longer so
     quiet(byId("run-open-outcome"));
     say(place, "done", paragraph(t("run.resumed", { number })), ...counts, paragraph(certificateLink(number)), ...told(answer));
-    await forecast.ended(number, result);
+    await Promise.all([forecast.ended(number, result), list.renew()]);
   } else {
     if (isUndone) failed(place, answer);
     else say(place, "unknown", ...told(answer), paragraph(t("run.lostResume")));
@@ -78,6 +82,7 @@ async function resume() {
 async function find(number) {
   const place = byId("run-outcome");
   byId("run-number").value = number;
+  past.tell("run", number);
   asking(place);
   const answer = await get(`certificates/${number}`);
   if (isMissing(answer, "certificate")) say(place, "wrong", paragraph(t("run.notClosed", { number })), paragraph(t("run.notClosedDo")), details(answer));
@@ -90,6 +95,9 @@ async function find(number) {
 
 export function start() {
   forecast.start();
+  list.start();
+  past = new HistoryPart("run-history");
+  document.querySelector("#run > .steps").after(past.node);
   askReason(byId("run-open"), ["open-run"]);
   askReason(byId("run-resume"), ["resume"]);
   onSubmit(byId("run-open"), open);
@@ -104,8 +112,11 @@ export function start() {
 /** Shows the run that the address names. */
 export function show(words) {
   forecast.renew();
+  list.renew();
   const number = words.get("number");
-  if (number === null) quiet(byId("run-outcome"));
-  else if (isNumber(number)) find(number);
+  if (number === null) {
+    past.tell(null);
+    quiet(byId("run-outcome"));
+  } else if (isNumber(number)) find(number);
   else say(byId("run-outcome"), "wrong", paragraph(t("fields.numberWrong")));
 }

@@ -1,6 +1,7 @@
 // The targets of a hold: how many of each kind, and each with its ref and title, where the catalogue has them.
 import { aggregations, part, records } from "../catalogue.js";
 import { link, made, paragraph, plural, save } from "../page.js";
+import { rowOf } from "../plain/catalogue.js";
 import { csvOf } from "../plain/csv.js";
 import { visible } from "../plain/marks.js";
 import { t } from "../texts.js";
@@ -27,7 +28,7 @@ export function countWords(targets) {
  */
 function namesOf({ kind, name }, lists) {
   if (kind === "class") return ["", lists.classes?.find((it) => it.code === name)?.title ?? ""];
-  const it = lists[`${kind}s`]?.rows[Number(name) - 1];
+  const it = rowOf(lists[`${kind}s`]?.rows ?? [], Number(name));
   if (!it) return ["", ""];
   return kind === "record" ? [it[1], it[2]] : [it.ref, it.title];
 }

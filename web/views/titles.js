@@ -1,6 +1,7 @@
 // Titles of the catalogue beside refs: whether they are shown, which is one choice for all views, and what they are.
 import { isFound, isThere, part } from "../catalogue.js";
 import { made } from "../page.js";
+import { rowOf } from "../plain/catalogue.js";
 import { t } from "../texts.js";
 
 let isOn = true;
@@ -10,13 +11,13 @@ const switches = [];
 export async function titleOf() {
   if (!(await isFound()) || !isOn) return null;
   const rows = await part("records");
-  return rows && ((record) => rows[record - 1]?.[2] ?? null);
+  return rows && ((record) => rowOf(rows, record)?.[2] ?? null);
 }
 
 /** What titles there are, whether they are shown or not. */
 export async function anyTitleOf() {
   const rows = isThere() ? await part("records") : null;
-  return (record) => rows?.[record - 1]?.[2] ?? null;
+  return (record) => rowOf(rows ?? [], record)?.[2] ?? null;
 }
 
 /** A switch for titles, which is hidden where there is no catalogue; `changed` is called once it was pressed, on any view. */

@@ -4,7 +4,8 @@ import { aboutIt, isThere, part, refresh, tree } from "../catalogue.js";
 import { asking, byId, failed, grouped, link, made, paragraph, plural, quiet, sentence } from "../page.js";
 import { today } from "../plain/forms.js";
 import { isMissing, jsonOf } from "../plain/outcomes.js";
-import { dueTasks } from "../plain/todo.js";
+import { dueTasks, ownTasks } from "../plain/todo.js";
+import { mayDo, mayRead } from "../rights.js";
 import { t } from "../texts.js";
 import { momentWords } from "./catalogue.js";
 import { USUAL_DAYS } from "./overdue.js";
@@ -64,12 +65,14 @@ function taskNode({ name, count, values = {}, links = [], more = [] }) {
 /** Shows what there is to do, and says of what else there is nothing. */
 function draw(tasks) {
   const there = tasks.filter(({ count }) => count > 0);
-  byId("todo-tasks").replaceChildren(...there.map(taskNode));
+  const { own, others } = ownTasks(there, mayDo);
+  byId("todo-tasks").replaceChildren(...own.map(taskNode));
+  const fold = (nodes) => made("details", { id: "todo-others" }, made("summary", {}, plural("todo.others", others.length)), made("div", { class: "tasks" }, ...nodes));
   const names = tasks.filter(({ count }) => !count).map(({ name }) => t(`todo.names.${name}`)).join(" · ");
-  const nothing = there.length ? [] : [made("p", { class: "nothing" }, t("todo.nothing"))];
+  const nothing = own.length ? [] : [made("p", { class: "nothing" }, t(others.length ? "todo.nothingYours" : "todo.nothing"))];
   const none = names ? [paragraph(t("todo.none", { names }), "hint")] : [];
-  const lacks = isThere() ? [] : [paragraph(t("todo.noCatalogue"), "hint")];
-  byId("todo-none").replaceChildren(...nothing, ...none, ...lacks);
+  const lacks = isThere() ? [] : [paragraph(t(mayRead("catalogue") ? "todo.noCatalogue" : "todo.noRight"), "hint")];
+  byId("todo-none").replaceChildren(...nothing, ...(others.length ? [fold(others.map(taskNode))] : []), ...none, ...lacks);
 }
 
 function step(key, view) {

@@ -160,7 +160,9 @@ class History:
         index = await self.index()
         rows = await asyncio.to_thread(index.since, begin, after, MOST_SINCE + 1)
         seen = [self.deed(it, sight) for it in rows[:MOST_SINCE] if await sight.sees(it)]
-        return answer_of({"rows": seen, "next": None if len(rows) <= MOST_SINCE else mark_of(rows[MOST_SINCE - 1])})
+        looked = rows[:MOST_SINCE]
+        last = mark_of(looked[-1]) if looked else f"{after[0]}.{after[1]}"
+        return answer_of({"rows": seen, "last": last, "more": len(rows) > MOST_SINCE})
 
     def deed(self, row: Row, sight: Sight) -> Json:
         answer: dict[str, Any] = row.answer if isinstance(row.answer, dict) else {}

@@ -233,7 +233,7 @@ def rotated(world: World) -> None:
 def since(world: World) -> None:
     """What was done since a catalogue, in order and by classes; nothing that was refused."""
     moment = time.strftime("%Y-%m-%dT%H:%M:%SZ", time.gmtime(time.time() + 5))
-    same("nothing yet", world.get("auditor", f"/since?moment={moment}"), (200, {"rows": [], "next": None}))
+    same("nothing yet", world.get("auditor", f"/since?moment={moment}"), (200, {"rows": [], "last": "0.0", "more": False}))
     earlier = time.strftime("%Y-%m-%dT%H:%M:%SZ", time.gmtime(time.time() - 3600))
     count = len(since_of(world, "auditor", earlier))
     world.act("legal", {"act": "place-hold", "code": "NEW", "reason": "since"}, {"act": "lift-hold", "hold": "NONE"},
@@ -256,6 +256,7 @@ def since_of(world: World, name: str, moment: str) -> list[dict]:
         status, body = world.get(name, f"/since?moment={moment}{at}")
         same(f"{name}: since {moment}{at}", status, 200)
         found += body["rows"]
-        if not body["next"]:
+        at = f"&after={body['last']}"
+        if not body["more"]:
+            judge("nothing comes twice", world.get(name, f"/since?moment={moment}{at}")[1]["rows"] == [])
             return found
-        at = f"&after={body['next']}"
