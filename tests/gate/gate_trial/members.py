@@ -28,6 +28,8 @@ class Memory:
     def __init__(self, office: int) -> None:
         self.office, self.position, self.lock = office, 0, threading.Lock()
         self.answers: dict[str, tuple[int, bytes, int]] = {}
+        # a member of before marks no answer
+        self.is_marking = True
 
 
 class Member(http.server.BaseHTTPRequestHandler):
@@ -44,7 +46,7 @@ class Member(http.server.BaseHTTPRequestHandler):
         with self.memory.lock:
             if key in self.memory.answers:
                 status, answer, position = self.memory.answers[key]
-                self.answer(status, answer, position, {"Office-Repeated": "1"})
+                self.answer(status, answer, position, {"Office-Repeated": "1"} if self.memory.is_marking else {})
                 return
             self.memory.position += 1
             status, answer = self.passed(body)
@@ -92,7 +94,7 @@ def tried(folder: pathlib.Path) -> None:
     elsewhere(one, other)
     stale(one, other)
     known(one, other)
-    repeated(one)
+    repeated(one, memory)
     for world in (one, other):
         judge("the chain holds", world.check().returncode == 0, world.check().stderr)
         world.end()
@@ -140,7 +142,7 @@ def known(one: World, other: World) -> None:
     same("anna carries it out there", resume(other, "anna"), 200)
 
 
-def repeated(world: World) -> None:
+def repeated(world: World, memory: Memory) -> None:
     """An answer from a member's memory changes nothing of what the gate knows, and the journal marks it."""
     def carried(name: str, key: str) -> tuple[int, bytes]:
         return world.ask(name, "POST", "/run/resume", b"", {"Idempotency-Key": key})
@@ -152,6 +154,11 @@ def repeated(world: World) -> None:
     same("berta's request comes once more", carried("berta", "resume-1"), first)
     same("the journal says so", world.last("answered").get("repeated"), True)
     same("anna still does not carry it out", resume(world, "anna"), 403)
+    memory.is_marking = False
+    same("once more, without a mark", carried("berta", "resume-1"), first)
+    judge("the journal has none", "repeated" not in world.last("answered"))
+    same("a closing of an earlier run closes none", resume(world, "anna"), 403)
+    memory.is_marking = True
     world.stop_gate()
     for it in world.state.glob("facts.db*"):
         it.unlink()
@@ -166,3 +173,8 @@ def repeated(world: World) -> None:
     same("anna's request comes once more", world.act("anna", OPEN, Idempotency_Key="open-1"), opened)
     record = world.act("registry", filing(30, 1))[1][0]["number"]
     same("she has no run open, and confirms", world.act("anna", confirm(record))[0], 200)
+    same("carl confirms with a key", world.act("carl", confirm(record), Idempotency_Key="confirm-1")[0], 200)
+    same("and berta after him", world.act("berta", confirm(record))[0], 200)
+    same("carl's request comes once more", world.act("carl", confirm(record), Idempotency_Key="confirm-1")[0], 200)
+    eyes(world, "berta is still the last one", "berta", "confirmer-does-not-open", OPEN)
+    same("carl is not, and opens", world.act("carl", OPEN)[0], 200)
