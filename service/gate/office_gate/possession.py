@@ -26,6 +26,7 @@ MOST_RECORDS, MOST_ASKED = 8, 64
 TABLES = """
 CREATE TABLE IF NOT EXISTS stored (digest TEXT, name TEXT, at REAL, bytes INTEGER, PRIMARY KEY (digest, name));
 CREATE INDEX IF NOT EXISTS stored_by ON stored(name, at);
+CREATE INDEX IF NOT EXISTS stored_at ON stored(at);
 CREATE TABLE IF NOT EXISTS named (digest TEXT, record INTEGER, PRIMARY KEY (digest, record)) WITHOUT ROWID;
 """
 UNNAMED = """
@@ -70,7 +71,8 @@ class Files:
 
     def take(self, entry: Json, at: float) -> None:
         """Takes a line `stored` of the journal."""
-        self.store(str(entry["name"]), str(entry["request"])[-64:], int(entry["bytes"]), at)
+        if at > time.time() - SWEPT:
+            self.store(str(entry["name"]), str(entry["request"])[-64:], int(entry["bytes"]), at)
 
     def fold(self, asked: Json, answers: object) -> None:
         """Notes which records name the files of a request, of its line and its answers."""
@@ -105,6 +107,8 @@ class Possession:
 
     async def judge(self, acts: list[Json]) -> list[Json]:
         """Refuses a content that names a file which is not the name's. Returns what the journal has of the files."""
+        if all(it["act"] != "add-record" for it in acts):
+            return []
         found = await asyncio.to_thread(named_in, acts)
         for it in found:
             for digest in it.digests:
