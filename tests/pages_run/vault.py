@@ -72,6 +72,7 @@ def restored(shell: Shell) -> None:
 
 ROWS = [
     Row("adduser --system --group --no-create-home --home /nonexistent office-vault"),
+    Row("adduser office-vault office-read"),
     Row("cp -r service/vault/office_vault"),
     Row("install -m 755 service/vault/office-vault"),
     Row("cp service/vault/office-vault@.service"),

@@ -80,6 +80,7 @@ class Machine:
 def set_up(it: Machine) -> None:
     for command in [*(f"adduser --system --group --no-create-home --home /nonexistent {it}"
                       for it in ("office", "office-mail", "office-vault")), "addgroup --system office-read",
+                    "adduser office-vault office-read",
                     "install -d -o office -g office -m 700 /var/lib/office/city",
                     "runuser -u office -- office init /var/lib/office/city/office.db",
                     "install -d -m 755 /var/lib/office-vaults /var/lib/office-vault-backups",
@@ -150,6 +151,8 @@ def kept(it: Machine) -> None:
     command = f"cut -d ' ' -f 1 {CITY}/reports/sweep-000001.txt | head -n 3; stat -c %U {CITY}/state.db"
     same("a report", it.run(command)[1], "SWEEP\nBEGAN\nNAMED\noffice-vault")
     same("the second vault has the file", it.run(f"sha256sum {SECOND}/objects/{name[:2]}/{name}")[1][:64], name)
+    same("root checks it by hand, as its owner", it.run(f"office-vault check {CITY} /run/office/city/readings")[1][-7:],
+         "wrong 0")
     same("timers start", it.run("systemctl enable --now office-vault-{sweep,check,mirror}@city.timer 2>/dev/null; "
                                 "systemctl is-active office-vault-{sweep,check,mirror}@city.timer")[1], "active\n" * 2
          + "active")
