@@ -43,13 +43,13 @@ class Earlier:
     def take(self, record: Record) -> str | None:
         """Gives a mail the ref that it has already, if it has one, and returns that."""
         data = record.document.data()
-        digests = {hashlib.sha256(data).hexdigest(): record.place}
+        digests = {hashlib.sha256(data).hexdigest()}
         found = self.refs(record.earlier)
         if len(data) > LONGEST_CONTENT:
             # the text that names a large file has its place as well
             names = [f"{record.document.path.stem}-{int(ref[-5:])}.eml" for ref in found.values() if ref[-5:].isdigit()]
-            digests = {hashlib.sha256(manifest(*digest_of(io.BytesIO(data)), name)).hexdigest(): name for name in names}
-        for digest in digests.keys() & found.keys():
-            record.act["ref"], record.place = found[digest], digests[digest]
-            return found[digest]
-        return None
+            digests = {hashlib.sha256(manifest(*digest_of(io.BytesIO(data)), name)).hexdigest() for name in names}
+        ref = next((found[it] for it in digests if it in found), None)
+        if ref is not None:
+            record.keep(ref)
+        return ref

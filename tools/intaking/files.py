@@ -33,6 +33,10 @@ def state_of(path: pathlib.Path) -> State:
     return State(seen.st_size, seen.st_mtime_ns, seen.st_ctime)
 
 
+def printed(path: pathlib.PurePosixPath) -> str:
+    return str(path).encode("utf-8", "backslashreplace").decode()
+
+
 @dataclass
 class Document:
     """A file, or a mail of a mailbox: where it is, as it was first seen, and its bytes once they are asked for."""
@@ -44,7 +48,7 @@ class Document:
 
     def name(self) -> str:
         """Its name, as each terminal can print it."""
-        return str(self.path).encode("utf-8", "backslashreplace").decode() + ("" if self.mail is None else f" mail {self.mail}")
+        return printed(self.path) + ("" if self.mail is None else f" mail {self.mail}")
 
     def file(self) -> pathlib.Path:
         return self.root / self.path
@@ -91,13 +95,10 @@ def documents(root: pathlib.Path, left: list[str]) -> Iterator[Document]:
             if path.is_symlink() or not path.is_file():
                 continue
             inside = pathlib.PurePosixPath(path.relative_to(root).as_posix())
-            document = Document(root, inside, state_of(path))
-            if path.suffix.lower() != ".mbox":
-                yield document
-                continue
             try:
-                count = len(box_of(path))
+                state = state_of(path)
+                count = len(box_of(path)) if path.suffix.lower() == ".mbox" else None
             except (OSError, mailbox.Error, ValueError) as why:
-                left.append(f"{document.name()}: it cannot be read: {why}")
+                left.append(f"{printed(inside)}: it cannot be read: {why.__class__.__name__}")
                 continue
-            yield from (Document(root, inside, document.state, at) for at in range(1, count + 1))
+            yield from (Document(root, inside, state, at) for at in ((None,) if count is None else range(1, count + 1)))

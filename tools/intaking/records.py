@@ -59,6 +59,12 @@ class Record:
             raise NotMade(CHANGING if isinstance(why, LookupError) else str(why)) from why
         return {**act, "content": base64.b64encode(content).decode()}
 
+    def keep(self, ref: str) -> None:
+        """Gives a mail the ref that an earlier version gave it, by its place then, which a file of the vault is named by."""
+        self.act["ref"] = ref
+        if ref[-5:].isdigit():
+            self.place = f"{self.document.path.stem}-{int(ref[-5:])}.eml"
+
     def content(self) -> bytes:
         """The bytes of the document; of a large one the text that names it in the vault."""
         if self.vault is None or self.document.size() <= LONGEST_CONTENT:

@@ -69,7 +69,7 @@ def converted(tools: Tools, world: World, sheet: pathlib.Path) -> None:
 
 def taken(tools: Tools, office: StandIn, folder: pathlib.Path) -> None:
     """A folder comes in, and comes in again."""
-    words = (folder / "scans", "--root", "BP", "--class", "K", "--changed", "--office",
+    words = (folder / "scans", "--root", "BP", "--class", "K", "--changed", "--settle", "0", "--office",
              f"https://localhost:{tools.proxy.port}/city")
     (folder / "scans/sheet.csv").unlink()
     done = tools.run("intake", *words)
