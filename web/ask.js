@@ -48,6 +48,19 @@ export const get = (path) => read(path);
 /** Asks for what an act is about to be for: a member of an office on several machines then answers the newest state or none. */
 export const getNewest = (path) => read(path, { "Office-Read": "newest" });
 
+/**
+ * Has the browser forget name and password: it asks by a name that is nobody's, and the server refuses that and asks anew. A
+ * `fetch` takes no name.
+ */
+export function forgetName() {
+  return new Promise((done) => {
+    const request = new XMLHttpRequest();
+    request.open("GET", placeOf("sign-out"), true, "nobody", "nobody");
+    request.addEventListener("loadend", done);
+    request.send();
+  });
+}
+
 /** Asks for nothing but the answer's Date, which is heard (clock.js). */
 export const askTime = () => ask("web/icon.svg", "HEAD");
 

@@ -1,6 +1,6 @@
 // What this name may do at this office, as the server that asked for it says: what is not its own to do is not offered.
-import { get } from "./ask.js";
-import { byId, paragraph, quiet, say } from "./page.js";
+import { forgetName, get } from "./ask.js";
+import { byId, made, paragraph, quiet, say } from "./page.js";
 import { jsonOf } from "./plain/outcomes.js";
 import { journaled } from "./plain/journaled.js";
 import { visible } from "./plain/marks.js";
@@ -55,7 +55,15 @@ export function tellName() {
   if (!isGated()) return;
   const { by, name, roles = [] } = gated;
   const words = { by: visible(by), roles: [...(by === name ? [] : [name]), ...roles.filter((it) => it !== name)].map(visible).join(", ") };
-  place.textContent = t(words.roles ? "page.signedInAs" : "page.signedIn", words);
+  const button = made("button", { type: "button", id: "sign-out", class: "quiet small" }, t("page.signOut"));
+  button.addEventListener("click", signOut);
+  place.replaceChildren(made("span", {}, t(words.roles ? "page.signedInAs" : "page.signedIn", words)), " ", button);
+}
+
+/** Signs out, and opens the page anew, which asks who signs in. */
+async function signOut() {
+  await forgetName();
+  location.reload();
 }
 
 /** Has the page say what the journal of a gate records, in the place of what the office itself does not. */

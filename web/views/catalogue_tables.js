@@ -65,7 +65,7 @@ function targetsOf(hold) {
 }
 
 const holdLink = ({ code }) => link(`#holds?code=${code}`, code);
-const runLink = ({ number, closed }) => (closed ? link(`#certificate?number=${number}`, number) : link("#run", number));
+const runLink = ({ number, closed }) => link(`#${closed ? "certificate" : "run"}?number=${number}`, number);
 /** A count, or nothing for a run that was closed since the catalogue. */
 const counted = (count) => (count === null ? "" : grouped(count));
 const stateOf = (run) => t(run.closed ? "catalogue.closedRun" : "catalogue.openRun");

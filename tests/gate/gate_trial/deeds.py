@@ -235,7 +235,7 @@ def readings(it: Browser, role: str, stage: Stage) -> None:
     """Asks past the page for what is not the role's to read, and for what is."""
     number = stage.records["due"]
     paths = {"records": f"records/{number}", "contents": f"records/{number}/content", "lists": f"due/{today()}",
-             "certificates": "certificates/1", "catalogue": "catalogue/records.json"}
+             "certificates": "certificates/1", "catalogue": "catalogue/records.json", "history": "history?name=legal"}
     for thing, path in paths.items():
         status, said = it.fetch("GET", path)
         if thing in READS[role]:

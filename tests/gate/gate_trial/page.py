@@ -72,6 +72,7 @@ def tried(folder: pathlib.Path) -> None:
     world = World(folder / "world", settings)
     catalogues = folder / "catalogues"
     catalogues.mkdir(parents=True)
+    world.catalogue = catalogues
     proxy = Proxy(folder / "nginx", "gated.conf", [*ROLES, reasons.NAME], world.place, world.port, catalogues / "now")
     world.settings.write_text(f"site {proxy.here}\nzone UTC\n" + settings)
     world.start_office()
@@ -184,7 +185,7 @@ def read(it: Browser, role: str, view: str) -> None:
     for thing, css in [(thing, css) for thing, place, css in READINGS if place == view]:
         there = thing in READS[role]
         seen = it.one("#main").text
-        # what the archive may read is what a run sent alone; a name with classes gets no catalogue
+        # what the archive may read is what a run sent alone
         word = "403 class" if role == "archive" and thing == "records" else "403 right"
         same(f"{role}, {it.language}: {view} shows its {thing}", it.is_seen(css), there)
         if not there:

@@ -37,6 +37,7 @@ def tried(folder: pathlib.Path) -> None:
     make(world)
     for language in os.environ.get("SPOKEN", " ".join(LANGUAGES)).split():
         histories(proxy, language)
+        signed_out(proxy, language)
         sentences(proxy, language)
         department(proxy, language)
         fresh(proxy, language, {"en-US": "100", "de-DE": "200"}[language])
@@ -128,6 +129,23 @@ def histories(proxy: Proxy, language: str) -> None:
         it.driver.quit()
 
 
+def signed_out(proxy: Proxy, language: str) -> None:
+    """Once somebody signed out the browser does not know name and password any more."""
+    it = Browser(proxy, "auditor", language)
+    address = f"https://localhost:{proxy.port}/city/web/"
+    try:
+        it.driver.get(address)
+        it.settled()
+        same("a page that is opened again asks nobody", it.is_seen("#signed-in"), True)
+        it.driver.execute_script("document.querySelector('#sign-out').click()")
+        time.sleep(2)
+        it.driver.get(address)
+        judge("once signed out, it is not opened without a password", "signed-in" not in it.driver.page_source,
+              it.driver.page_source[:300])
+    finally:
+        it.driver.quit()
+
+
 def sentences(proxy: Proxy, language: str) -> None:
     """Nowhere does the page say that nobody knows who did it: the journal does, and has the reason of what needs one."""
     words = texts(language, "page")
@@ -137,7 +155,7 @@ def sentences(proxy: Proxy, language: str) -> None:
              texts(language, "plan")["rule"]["unrecorded"], texts(language, "fields")["noReason"],
              texts(language, "due")["confirmAbout"], texts(language, "file")["sendAbout"]]
     try:
-        same("who is signed in, with the role", it.one("#signed-in").text, words["signedInAs"].format(
+        same("who is signed in, with the role", it.one("#signed-in > span").text, words["signedInAs"].format(
             by="R. Halloran, records manager", roles="records-manager"))
         seen = it.driver.execute_script("return document.body.textContent")
         same("none is there that is not so", [one for one in false if one in seen], [])
@@ -201,7 +219,7 @@ def fresh(proxy: Proxy, language: str, mark: str) -> None:
         time.sleep(0.5)
         it.settled()
         rows = rows_of(it, "#hold-list > table")
-        judge("the hold that was placed stands in the list", rows[0][:2] == [f"H{mark}", f"lawsuit {mark}"], rows)
+        judge("the hold that was placed stands in the list", [f"H{mark}", f"lawsuit {mark}"] in [row[:2] for row in rows], rows)
         it.picture("hold-list")
         it.open(f"holds?code=H{mark}")
         judge("and is shown", f"lawsuit {mark}" in it.one("#hold-told").text, it.one("#hold-told").text)
