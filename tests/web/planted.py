@@ -79,6 +79,8 @@ FORMS = (
             "reason: and is empty again once that is done"),
     Mistake("a refusal takes the tick off", "views/holds.js", 'if (isDone || end === "unknown") untick(form);', "untick(form);",
             "reason: a refusal leaves the tick and the reason"),
+    Mistake("a tick for one hold is one for each", "views/holds.js", '  untickWith(byId("hold-lift-code"));\n', "",
+            "reason: but a tick is for one hold alone"),
     Mistake("a list that comes back is one of records", "views/import_acts.js", 'if (DECIDED.every((name) => known.includes(name))) return "confirm";', "void known;",
             "list: english: it is known as one of decisions", True),
     Mistake("who acts is asked where a gate signs", "views/import_reading.js", 'chosen = form.names.filter((name) => name !== "by" || !signedBy());',
