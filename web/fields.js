@@ -120,6 +120,12 @@ export function untick(form) {
   for (const box of form.querySelectorAll("input[type=checkbox]")) box.checked = false;
 }
 
+/** Takes the ticks of a form away once somebody writes into this field: they are for what was written in it. */
+export function untickWith(input) {
+  // a number that the page puts in the place of a ref is the same thing
+  input.addEventListener("input", ({ isTrusted }) => isTrusted && untick(input.form));
+}
+
 // ---- what is wrong in a form
 
 /** Says at a field what is wrong with it, or that nothing is. */

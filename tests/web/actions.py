@@ -207,7 +207,8 @@ def taken(view: View) -> None:
 
 def late(view: View) -> str:
     """Presses the button of the schedule's form, with the tick that a day after today asks for."""
-    if "2027-01-02" > after(0):
+    # a refusal leaves the tick
+    if "2027-01-02" > after(0) and not view.browser.one("#record-schedule-day-sure").is_selected():
         view.browser.press("#record-schedule-day-sure")
     view.browser.press("#record-schedule button")
     return view.browser.seen("#record-schedule-outcome")
@@ -223,7 +224,7 @@ def lost(view: View) -> None:
         "an answer that is lost is told as unknown",
         said,
         TEXTS["statuses"][-1]["meaning"],
-        WORDS["class"]["lost"].format(target="record:2"),
+        WORDS["class"]["lost"].format(target="record 2"),
         TEXTS["event"]["stale"],
     )
     same("and nothing is sent a second time", view.story.posted() - before, 1)

@@ -92,6 +92,8 @@ def reasons(story: Story) -> None:
         says("reason: what is lifted cannot be lifted", it.seen("#hold-lift-outcome"), TEXTS["refusals"]["12"]["meaning"])
         same("reason: a refusal leaves the tick and the reason",
              (it.one("#hold-sure").is_selected(), it.one("#hold-lift-why").get_attribute("value")), (True, "again"))
+        it.write(hold_lift_code="LAW-9")
+        same("reason: but a tick is for one hold alone", it.one("#hold-sure").is_selected(), False)
         it.go("#import")
         plan = "act,code,title,schedule,begins,unit,length,offset,then\n"
         plan += "schedule,NEW-9,,,added,years,9,none,destroy\nclass,NEW,New,NEW-9,,,,,\n"

@@ -94,7 +94,7 @@ def made(plan: Plan) -> None:
             "close-aggregation": "close",
             "reclassify": "reclassify",
         }
-        wanted = WORDS[words[act["act"]]]["done"].format(**{**act, "number": numbers})
+        wanted = WORDS[words[act["act"]]]["done"].format(**{**act, "number": numbers, "target": act.get("target", "").replace(":", " ")})
         said = plan.ask(act)
         asked.append((act, wanted, said))
     wrong = [it for it in asked if it[1] not in it[2]]

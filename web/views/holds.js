@@ -1,5 +1,5 @@
 // Holds: shows one, places one, puts a target on, takes one off, lifts it. No path shows a hold: the catalogue does.
-import { mark, onSubmit, untick } from "../fields.js";
+import { mark, onSubmit, untick, untickWith } from "../fields.js";
 import { asking, byId, failed, made, paragraph, say, told } from "../page.js";
 import { holdOff, holdOn, liftHold } from "../plain/acts.js";
 import { isCode } from "../plain/forms.js";
@@ -74,6 +74,7 @@ async function ask(name, values) {
 export function start() {
   shown.start();
   list.start();
+  untickWith(byId("hold-lift-code"));
   placing.start((code) => {
     carry(code, ["hold-on"]);
     return list.renew();

@@ -1,5 +1,5 @@
 // The filing plan: schedules, classes and aggregations, and what classes, aggregations and records get of them later.
-import { clear, untick } from "../fields.js";
+import { clear, untick, untickWith } from "../fields.js";
 import { byId, made, sentence } from "../page.js";
 import { dueDay, LONGEST } from "../plain/days.js";
 import { isDay, isNumber, today } from "../plain/forms.js";
@@ -146,6 +146,7 @@ export function start() {
     forms.forEach(begin);
   }
   addExample();
+  untickWith(byId("plan-close-aggregation"));
   watchTitle();
   forecast.start();
 }
