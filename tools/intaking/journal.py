@@ -21,8 +21,10 @@ class Journal:
 
     def write(self, has_mails: bool) -> None:
         """Notes what is known now; in the form of before as long as no mails were looked at."""
-        text = json.dumps(self.aggregations if self.is_earlier and not has_mails
-                          else {"aggregations": self.aggregations, "mails": self.mails}, ensure_ascii=False, indent=1)
+        noted: object = {"aggregations": self.aggregations, "mails": self.mails}
+        if self.is_earlier and not has_mails:
+            noted = self.aggregations
+        text = json.dumps(noted, ensure_ascii=False, indent=1)
         new = self.path.with_name(f".{self.path.name}.new")
         new.write_text(text + "\n", encoding="utf-8")
         new.replace(self.path)

@@ -145,9 +145,9 @@ def record_of(document: Document, homes: dict[str, Aggregation], numbers: dict[s
     ref = checked_ref(ref_of(asked, fields, day))
     if document.is_changed():
         raise Unusable(CHANGING)
-    act = {"act": "add-record", "day": asked.day, "ref": ref, "title": text_of(mail.subject) or text_of(fields["stem"]),
-           "originated": day.isoformat(), "aggregation": numbers.get(home.ref, Pending(home.ref)), "class": None,
-           "schedule": None}
+    act: dict[str, object] = {
+        "act": "add-record", "day": asked.day, "ref": ref, "title": text_of(mail.subject) or text_of(fields["stem"]),
+        "originated": day.isoformat(), "aggregation": numbers.get(home.ref, Pending(home.ref)), "class": None, "schedule": None}
     record = Record(document, act, asked.vault, identity, place=document.path.name)
     if identity:
         stem = document.path.stem
