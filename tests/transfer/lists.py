@@ -7,8 +7,7 @@ from collections.abc import Callable
 from bags import transfer
 from fake import Fake, digest
 from judging import judge
-from place import TOOLS, Done, run
-from thousand import challenge_of
+from place import TOOLS, Done, challenge_of, run
 
 BIG, SCAN = b"big", b"scan"
 PARTS = {"data/000001_A_One.txt": b"one", "data/000003_C_One-again.txt": b"one", "data/000004_D_Four.txt": b"four",

@@ -1,6 +1,7 @@
 """Where the trial finds what it tries, and how it runs it."""
 import os
 import pathlib
+import re
 import socket
 import subprocess
 from typing import NamedTuple
@@ -57,6 +58,11 @@ class Served:
     def __exit__(self, *_: object) -> None:
         self.process.kill()
         self.process.wait()
+
+
+def challenge_of(bag: pathlib.Path) -> bytes:
+    """The challenge of the order beside a bag."""
+    return re.findall(b"(?m)^CHALLENGE ([0-9a-f]{64})$", bag.with_name(bag.name + ".order.txt").read_bytes())[0]
 
 
 def files_in(folder: pathlib.Path) -> dict[str, bytes]:

@@ -8,7 +8,6 @@ import json
 import os
 import pathlib
 import random
-import re
 import sqlite3
 
 import csip
@@ -16,7 +15,7 @@ import reader
 from bags import ODD, rows, sums_agree
 from fake import digest
 from judging import judge
-from place import OFFICE, SERVICE, TOOLS, TOP, Served, files_in, run
+from place import OFFICE, SERVICE, TOOLS, TOP, Served, challenge_of, files_in, run
 
 COUNT = 1000
 ADDED, DUE, SENT = "2020-01-02", "2020-01-03", "2020-02-02"
@@ -71,11 +70,6 @@ def waiting(copy: pathlib.Path) -> list[dict[str, str]]:
     done = run(SERVICE / "office-awaiting", copy)
     judge("what waits is listed", done.status == 0, done)
     return list(csv.DictReader(io.StringIO(done.out, newline="")))
-
-
-def challenge_of(bag: pathlib.Path) -> bytes:
-    """The challenge of the order beside a bag."""
-    return re.findall(b"(?m)^CHALLENGE ([0-9a-f]{64})$", bag.with_name(bag.name + ".order.txt").read_bytes())[0]
 
 
 def archives_list(bag: pathlib.Path) -> tuple[str, set[int], set[int]]:
