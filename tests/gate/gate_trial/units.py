@@ -255,7 +255,7 @@ def year_ended(it: Machine) -> None:
                         "class": "BLDG1"}])
     it.done(f"cp service/office-yearend@.service /etc/systemd/system/; systemctl daemon-reload; mkdir -p {place}; "
             f"echo '{acts}' > {place}/{today()}-1.json; chmod 644 {place}/*", "a list of today")
-    start = (f"systemctl start {unit}; systemctl show -P Result {unit}; "
+    start = (f"systemctl start {unit} || true; systemctl show -P Result {unit}; "
              f"journalctl -o cat -u {unit} --no-pager | tail -n 5")
     said = it.run(start)[1]
     judge("the list is sent", said.startswith("success") and "1 done, 0 refused" in said, said)
