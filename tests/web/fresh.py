@@ -72,3 +72,6 @@ def tell(office: Office, proxy: Proxy, it: Browser, folder: pathlib.Path) -> Non
         it.go("run")
         same("fresh: no run yet", it.seen("#run-list"), TEXTS["run"]["noRuns"])
         judge("fresh: no history without a gate", not any(node.is_displayed() for node in it.all(".history")))
+        # what is hidden asks for nothing, also where a script opens it
+        it.driver.execute_script("for (const node of document.querySelectorAll('details')) node.open = true")
+        it.settled()
