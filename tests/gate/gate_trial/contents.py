@@ -24,11 +24,12 @@ def tried(folder: pathlib.Path) -> None:
     world.start_office()
     repeated(world)
     mixed(world)
+    unanswered(world)
     unread(world)
     now = closed(world)
     # without the later file, so that each content comes from beside the journal
     status, said = replayed(world, copy)
-    judge("the copy and the journal make an office", status == 0 and "without an answer: 1" in said, said)
+    judge("the copy and the journal make an office", status == 0 and "without an answer: 2" in said, said)
     judge("it is that of now, row by row", rows(world.folder / "new.db") == rows(now))
     lost(world, copy)
     world.end()
@@ -70,6 +71,22 @@ def mixed(world: World) -> None:
         judge(f"list {turn} is done in part", status == 409 and "number" in found[0] and "refused" in found[1], found)
     size, room = on_disk(world)
     judge("what was refused is off the disk", room - before[1] <= 5 * 6 * BLOCK, (before, size, room))
+
+
+def unanswered(world: World) -> None:
+    """What may have been done keeps its contents: the office is killed while it has the list."""
+    before = on_disk(world)
+    world.office.send_signal(signal.SIGSTOP)
+    one = threading.Thread(target=world.act, args=("registry", filing(400, 1, os.urandom(LARGE))))
+    one.start()
+    while world.last("asked")["acts"][0].get("ref") != "r400":
+        time.sleep(0.02)
+    time.sleep(0.3)
+    world.stop_office()
+    one.join()
+    world.start_office()
+    same("nobody knows what it did", world.last("answered")["known"], False)
+    judge("its contents stay after that", on_disk(world)[0] >= before[0] + LARGE, (before, on_disk(world)))
 
 
 def unread(world: World) -> None:
