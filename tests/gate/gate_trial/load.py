@@ -82,12 +82,14 @@ def given(count: int, last: int = 2) -> bytes:
 
 def linear(world: World) -> None:
     """Judging twice as many acts takes twice as long."""
-    times = []
-    for count in (1000, 2000):
-        body = given(count)
-        times.append(cost(world, lambda: same(f"{count} acts", world.text("clerk", body),
-                                              (403, {"error": "class", "act": "reclassify", "place": count - 1})), 5))
-    judge("time for 1,000 and 2,000 acts", times[1] < 2.5 * times[0], times)
+    times = {1000: float("inf"), 2000: float("inf")}
+    # a machine that does other work too makes some of them slow
+    for _ in range(9):
+        for count, least in times.items():
+            body = given(count)
+            refusal = (403, {"error": "class", "act": "reclassify", "place": count - 1})
+            times[count] = min(least, cost(world, lambda: same(f"{count} acts", world.text("clerk", body), refusal), 1))
+    judge("time for 1,000 and 2,000 acts", times[2000] < 2.5 * times[1000], times)
 
 
 async def turns_during(work: Coroutine[None, None, object]) -> tuple[int, object]:
