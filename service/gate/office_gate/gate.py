@@ -36,7 +36,7 @@ Written = asyncio.Future[Head]
 """the line of an answer, once it is on the disk"""
 LONG = 65_536
 """the bytes of a list above which the journal names it before it is read, and one is read at a time"""
-WHOLE = ("class", "eyes", "gate")
+WHOLE = ("class", "eyes", "file", "gate")
 """the words of refusals whose lines have the acts: what is refused before the classes leaves no text of the client"""
 OWN = ("acts", "contents", "earlier", "reason", "key")
 """the members of a line that have text of the client"""
