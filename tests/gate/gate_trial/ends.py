@@ -21,7 +21,14 @@ COUNTS = re.compile(r"lines: (\d+), from line (\d+), head \S+ heads compared: (\
 
 
 def tried(folder: pathlib.Path) -> None:
-    world = made(folder)
+    try:
+        both(made(folder))
+    finally:
+        # however it ends, its folder can be removed
+        free(folder)
+
+
+def both(world: World) -> None:
     head = printed(world)
     files = three(world)
     world.stop_gate()
@@ -284,4 +291,3 @@ def refused(world: World, lines: list[bytes]) -> None:
     (place.parent / "journal-20260201").write_bytes((place.parent / "journal-20260201").read_bytes().replace(b'"', b"'", 1))
     stay("a broken chain", 1, "--before", days_ago(180), word="lines were cut out")
     judge("no head of it is written", not pathlib.Path(f"{place}.heads").exists())
-    free(place.parent)
