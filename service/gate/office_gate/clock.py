@@ -71,13 +71,13 @@ def read(place: Path) -> Moment | None:
     return Moment(at, counted) if math.isfinite(at) and math.isfinite(counted) else None
 
 
-def write(place: Path, moment: Moment) -> None:
+def write(place: Path, moment: Moment, mode: int = 0o600) -> None:
     """Writes a moment down, in the place of an older one."""
     new = place.with_name(f"{place.name}.new")
     new.unlink(missing_ok=True)
-    file = os.open(new, os.O_WRONLY | os.O_CREAT | os.O_EXCL | os.O_CLOEXEC, 0o644)
+    file = os.open(new, os.O_WRONLY | os.O_CREAT | os.O_EXCL | os.O_CLOEXEC, mode)
     try:
-        os.fchmod(file, 0o644)
+        os.fchmod(file, mode)
         os.write(file, moment.text().encode())
         os.fsync(file)
     finally:
@@ -181,5 +181,6 @@ def say_right(state: Path) -> str:
     """Writes down that the clock is right as it is now. Returns what it shows."""
     if not state.is_dir():
         raise Refused(2, f"there is no folder {state}: it is that of the gate, as /var/lib/office-gate/NAME")
-    write(state / WORD, now())
+    # root may write it, and the gate reads it
+    write(state / WORD, now(), 0o644)
     return datetime.datetime.now().astimezone().isoformat(timespec="seconds")
