@@ -59,9 +59,11 @@ def one(folder: pathlib.Path, chance: random.Random, name: str) -> None:
     unknown = filled(world, chance)
     world.stop_office()
     subprocess.run([OFFICE, "init", str(world.file)], check=True, stdout=subprocess.DEVNULL)
+    # a replay ends at the moment at which the later copy was made
+    shutil.copyfile(world.file, folder / "later.db")
     began = time.monotonic()
     done = subprocess.run([PYTHON, "-I", JOURNAL, "replay", world.journal, folder / "copy.db", folder / "new.db",
-                           "--state", world.state, "--beside", world.file, "--moment", "2000-01-01"],
+                           "--state", world.state, "--beside", folder / "later.db", "--moment", "2000-01-01"],
                           capture_output=True, text=True, check=False)
     found = LAST.search(done.stdout)
     judge(f"{name}: the replay gives the file", done.returncode == 0 and found and int(found[1]) == unknown,
