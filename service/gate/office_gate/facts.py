@@ -28,7 +28,7 @@ CREATE TABLE IF NOT EXISTS parts (line INTEGER, place INTEGER, name TEXT, run IN
 CREATE TABLE IF NOT EXISTS closed (one INTEGER PRIMARY KEY CHECK (one = 1), line INTEGER, at REAL);
 CREATE TABLE IF NOT EXISTS days (one INTEGER PRIMARY KEY CHECK (one = 1), day TEXT);
 """
-VERSION = 2
+VERSION = 3
 """of these tables, and of what is noted in them; what another gate noted is made anew from the journal"""
 MARGIN = 120.0
 """so many seconds before its moment the journal is read on from a catalogue: what is done twice makes no difference"""
@@ -59,6 +59,9 @@ def thing_of(act: Json) -> str | None:
         return str(act.get("target"))
     if kind == "set-class-schedule":
         return f"class:{act.get('class')}"
+    if kind == "close-aggregation":
+        number = number_in(act, "aggregation")
+        return None if number is None else f"aggregation:{number}"
     return None
 
 

@@ -21,8 +21,9 @@ SIGNED = ("place-hold", "confirm", "review", "open-run", "receipt", "event")
 OF_RECORD = ("set-record-schedule", "confirm", "review", "receipt", "event")
 """the kinds whose member `record` names what they are about"""
 RUN = ("open-run", "run-step", RESUME)
-DECISIONS = ("confirm", "review", "event", "set-record-schedule", "reclassify", "set-class-schedule")
-"""the kinds that decide which records a run takes: an event, too, may make a confirmation count again"""
+DECISIONS = ("confirm", "review", "event", "set-record-schedule", "reclassify", "set-class-schedule",
+             "close-aggregation")
+"""the kinds that decide which records a run takes: an event or a closing, too, may make a confirmation count again"""
 GIVES = ("set-record-schedule", "reclassify", "set-class-schedule", "review", "event", "add-record", "add-aggregation",
-         "add-class")
+         "add-class", "close-aggregation")
 """the kinds that move a due day: they give a schedule, a class, or the day from which a period begins"""

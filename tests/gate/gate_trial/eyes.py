@@ -33,6 +33,7 @@ def tried(folder: pathlib.Path) -> None:
     unconfirmed(world)
     unknown(world)
     moving(world)
+    closing(world)
     again(world)
     making(world)
     lone(world)
@@ -229,6 +230,29 @@ def moving(world: World) -> None:
     eyes(world, "she files nothing with an early day", "anna", rule, early | {"ref": "r53"})
     same("but with the day of the filing", world.act("anna", filing(54, file["number"]))[0], 200)
     same("berta carries it out", resume(world, "berta"), 200)
+
+
+def closing(world: World) -> None:
+    """Whoever closes a file makes its records due, and slips none of them into the run of somebody else."""
+    rule = "changer-does-not-open"
+    world.act("records-manager", {"act": "add-schedule", "code": "C0", "trigger": "closed", "unit": "days", "count": 0,
+                                  "offset": "none", "action": "destroy"},
+              {"act": "add-class", "code": "CLOSED", "title": "t", "schedule": "C0"})
+    made = [{"act": "add-aggregation", "ref": it, "title": "t", "class": "CLOSED"} for it in ("SLIP", "SHUT")]
+    slip, shut = (it["number"] for it in world.act("records-manager", *made)[1])
+    first, second = (it["number"] for it in world.act("registry", filing(55, slip), filing(56, shut))[1])
+    own = [{"act": "set-record-schedule", "record": first, "schedule": it} for it in ("D0", "C0")]
+    same("berta confirms what is due for a moment", world.act("berta", own[0], confirm(first), own[1])[0], 200)
+    same("anna opens, and nothing is due", world.act("anna", OPEN)[0], 200)
+    for name in ("anna", "berta"):
+        eyes(world, f"{name} closes no file while it is open", name, rule, {"act": "close-aggregation", "aggregation": slip})
+    same("berta carries it out", resume(world, "berta"), 200)
+    same("nothing was slipped in", world.direct("GET", f"/records/{first}/content")[0], 200)
+    same("carl closes the other file", world.act("carl", {"act": "close-aggregation", "aggregation": shut})[0], 200)
+    same("berta confirms what that made due", world.act("berta", confirm(second))[0], 200)
+    eyes(world, "who closed its file", "carl", rule, OPEN)
+    same("anna, who closed none, opens", world.act("anna", OPEN)[0], 200)
+    same("berta carries that out", resume(world, "berta"), 200)
 
 
 def opened_run(world: World, moment: float, number: int, by: str) -> None:
