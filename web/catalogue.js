@@ -139,6 +139,12 @@ async function wasMade(name) {
   }
 }
 
+/** Whether what was done since the catalogue was made added or changed the row of this code. */
+export async function isNewer(name, code) {
+  const [now, then] = [await part(name), await wasMade(name)].map((rows) => rows?.find((row) => row.code === code));
+  return now !== then;
+}
+
 /** What is made of a part's rows, once for each catalogue. */
 async function ofPart(key, name, make) {
   const rows = await part(name);

@@ -57,14 +57,14 @@ FORECAST = (
             "run: no sentence says open or nothing once it is closed"),
     Mistake("of no run it is said what one did", "views/run_forecast.js", "paragraph(noneWords(day))", 'paragraph(t("run.tookNone"))',
             "run: of a day on which nothing is due it says what a run would do"),
-    Mistake("the page forgets the schedule that it has added", "own_plan.js", 'if (act === "add-schedule") schedules.set(code, members);',
-            'if (act === "add-schedule") return;', "rule: the page knows the schedule that it has added", True),
+    Mistake("the page forgets the schedule that it has added", "plain/since.js", '"add-schedule": { schedules:', '"add-schedule": { others:',
+            "rule: the page knows the schedule that it has added", True),
     Mistake("nothing is said of a schedule that nobody knows", "views/plan_forecast.js",
             'if (unknown) return noForecast(byId("plan-rule"), unknown, codes);', "if (unknown) return nothing;",
             "rule: of one that it does not know it says that there is no forecast", True),
     Mistake("what has no forecast needs no tick", "views/forecast.js", 'nodes: [paragraph(words, "grave"), tick]', 'nodes: [paragraph(words, "grave")]',
             "rule: without the tick nothing of it is sent", True),
-    Mistake("a class keeps its old schedule", "own_plan.js", 'else if (act === "set-class-schedule")', 'else if (act === "")',
+    Mistake("a class keeps its old schedule", "plain/since.js", '"set-class-schedule": { classes:', '"set-class-schedule": { others:',
             "rule: a next forecast is of the schedule that the class has now"),
 )
 

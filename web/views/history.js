@@ -60,7 +60,8 @@ export class HistoryPart {
     this.node = made("details", { id, class: "history inset" }, summary, this.about, this.outcome, this.place, this.more);
     this.node.hidden = true;
     this.more.hidden = true;
-    this.node.addEventListener("toggle", () => this.node.open && !this.node.hidden && !this.#rows.length && this.#read());
+    // it may be about nothing by now: this comes later than the press
+    this.node.addEventListener("toggle", () => this.node.open && this.#thing && !this.#rows.length && this.#read());
     this.more.addEventListener("click", () => this.#read());
   }
 

@@ -2,7 +2,6 @@
 import { part, refresh } from "../catalogue.js";
 import { made } from "../page.js";
 import { bytesOf } from "../plain/acts.js";
-import { noteDone } from "../own_plan.js";
 import { today } from "../plain/forms.js";
 import { hasBirthday } from "../plain/persons.js";
 import { isSettled } from "../plain/sending.js";
@@ -106,7 +105,6 @@ export async function sendActs(rows, numbers, changed) {
     for (const { act, item } of list) {
       if (!isSettled(item)) continue;
       if (act.act === "add-aggregation") numbers.set(act.ref, item.fate.number);
-      else noteDone(act);
     }
     // it was stopped by hand, or by an answer
     if (answer || items.some(({ fate }) => fate.kind === "left")) return answer;

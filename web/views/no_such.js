@@ -2,19 +2,14 @@
 import { aboutIt, isThere, numbered, part, refresh } from "../catalogue.js";
 import { mark } from "../fields.js";
 import { partOf } from "../offers.js";
-import { classesWith, schedulesWith } from "../own_plan.js";
 import { isNumber } from "../plain/forms.js";
 import { t } from "../texts.js";
 
 /** The refusal that says that something does not exist. */
 const NO_SUCH = 5;
-const WITH_OWN = { schedules: schedulesWith, classes: classesWith };
 
-/** The codes of a part of the catalogue, with those that this page added. */
-async function codesOf(name) {
-  const rows = (await part(name)) ?? [];
-  return WITH_OWN[name] ? [...WITH_OWN[name](rows).keys()] : rows.map(({ code }) => code);
-}
+/** The codes of a part of the catalogue, with those that were added since. */
+const codesOf = async (name) => ((await part(name)) ?? []).map(({ code }) => code);
 
 /** Whether the thing is there, and a code that is there and differs in capitals alone. */
 async function lookFor(name, text) {

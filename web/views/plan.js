@@ -4,16 +4,12 @@ import { byId, made, sentence } from "../page.js";
 import { dueDay, LONGEST } from "../plain/days.js";
 import { isDay, isNumber, today } from "../plain/forms.js";
 import { hasBirthday } from "../plain/persons.js";
-import { noteDone } from "../own_plan.js";
 import { t } from "../texts.js";
 import { begin, stepOf } from "./act_form.js";
 import * as forecast from "./plan_forecast.js";
 
-/** Has the forecasts go by an act of this page that is done, which no catalogue has yet. */
-function noted(act, fate) {
-  if (fate === "done") noteDone(act);
-  return forecast.renew("rule");
-}
+/** Makes the forecast anew: an act that is done may change what it goes by. */
+const renewRule = () => forecast.renew("rule");
 
 /** The forms, by the heading that they are below. */
 const FORMS = {
@@ -34,7 +30,7 @@ const FORMS = {
       },
       act: ({ example, ...members }) => ({ act: "add-schedule", ...members, count: Number(members.count) }),
       clears: ["code"],
-      after: noted,
+      after: renewRule,
     },
   ],
   classes: [
@@ -45,7 +41,7 @@ const FORMS = {
       fields: { code: "classCode", title: "title", schedule: "schedule", day: "day" },
       act: (members) => ({ act: "add-class", ...members }),
       clears: ["code", "title"],
-      after: noted,
+      after: renewRule,
     },
     {
       id: "plan-rule",
@@ -54,7 +50,7 @@ const FORMS = {
       fields: { class: "class", schedule: "schedule", day: "day" },
       act: (members) => ({ act: "set-class-schedule", ...members }),
       before: forecast.ofRule,
-      after: noted,
+      after: renewRule,
     },
   ],
   aggregations: [

@@ -1,9 +1,8 @@
 // What closing an aggregation and giving a class another schedule would do, before either is done.
 import { getNewest } from "../ask.js";
-import { aboutIt, aggregations, details, part, records, refresh, tree } from "../catalogue.js";
+import { aboutIt, aggregations, details, isNewer, part, records, refresh, tree } from "../catalogue.js";
 import { clear } from "../fields.js";
 import { byId, grouped, link, made, paragraph, plural, tableOf } from "../page.js";
-import { classesWith, isOwnClass, schedulesWith } from "../own_plan.js";
 import { positionOf, rowOf } from "../plain/catalogue.js";
 import { closeForecast, ruleForecast } from "../plain/forecast.js";
 import { isCode, isDay, isNumber, today } from "../plain/forms.js";
@@ -25,7 +24,7 @@ const dayOf = (id) => (isDay(valueOf(id)) ? valueOf(id) : today());
 
 const noCatalogue = () => ({ seen: "", nodes: [paragraph(t("forecast.noCatalogue"), "hint")] });
 
-const schedulesByCode = async () => schedulesWith((await part("schedules")) ?? []);
+const byCode = async (name) => new Map(((await part(name)) ?? []).map((it) => [it.code, it]));
 
 // ---- a closing
 
@@ -70,7 +69,7 @@ async function makeClosing() {
   const there = await recordsOf(numbers, MOST);
   if (there === null) return null;
   nodes.push(paragraph(plural("forecast.close.holds", numbers.length)));
-  const follow = closeForecast(there, await schedulesByCode(), dayOf("plan-close-day"));
+  const follow = closeForecast(there, await byCode("schedules"), dayOf("plan-close-day"));
   if (numbers.length) nodes.push(followTable(follow));
   if (numbers.length > MOST) nodes.push(paragraph(t("forecast.some", { count: MOST }), "hint"));
   return { seen: JSON.stringify([it, children.length, numbers.length, follow]), nodes };
@@ -81,15 +80,15 @@ async function makeClosing() {
 const momentOf = () => aboutIt().moment.slice(0, 16).replace("T", " ");
 
 /** Of when it is that a class has its schedule: somebody else may have given it another one since. */
-function asOfWords({ code, schedule }) {
-  return isOwnClass(code) ? [] : [t("forecast.rule.asOf", { class: code, schedule, moment: momentOf() })];
+async function asOfWords({ code, schedule }) {
+  return (await isNewer("classes", code)) ? [] : [t("forecast.rule.asOf", { class: code, schedule, moment: momentOf() })];
 }
 
-/** What this class and this schedule are, by the catalogue and by what this page did since; or why nobody knows. */
+/** What this class and this schedule are, by the catalogue and by what was done since; or why nobody knows. */
 async function ruleWritten(code, name) {
   if ((await refresh()) === null) return { unknown: t("forecast.noCatalogue") };
-  const it = classesWith((await part("classes")) ?? []).get(code);
-  const rule = (await schedulesByCode()).get(name);
+  const it = (await byCode("classes")).get(code);
+  const rule = (await byCode("schedules")).get(name);
   const moment = momentOf();
   if (!rule) return { unknown: t("forecast.rule.newSchedule", { code: name, moment }) };
   return it ? { it, rule } : { unknown: t("forecast.rule.newClass", { code, moment }) };
@@ -150,7 +149,7 @@ async function makeRule() {
   const confirmed = rows.some((row) => row.confirmed);
   if (confirmed) nodes.push(paragraph(plural("forecast.rule.fall", fallen.length), fallen.length ? "grave" : ""), ...fallenList(fallen));
   if (rows.length > found.length) nodes.push(paragraph(t("forecast.some", { count: grouped(found.length) }), "hint"));
-  nodes.push(paragraph([...asOfWords(it), t("forecast.rule.limits")].join(" "), "hint"));
+  nodes.push(paragraph([...(await asOfWords(it)), t("forecast.rule.limits")].join(" "), "hint"));
   return { seen: JSON.stringify([it, rule.code, rows.length, counts, fallen.map(({ record }) => record)]), nodes };
 }
 

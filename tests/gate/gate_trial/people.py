@@ -97,6 +97,7 @@ def histories(proxy: Proxy, language: str) -> None:
         judge("record 1: when", all(row[0].startswith(DAY) for row in rows), rows)
         same("record 1: what", rows[1][2], words["kinds"]["add-record"].format(number=1, ref="r1"))
         it.picture("record-history")
+        narrow(it)
         it.open("record?number=3")
         judge("record 3: the class of the moment, and before", words["own"] in rows_of(it, "#record-history")[0][2]
               and "BLDG1" in rows_of(it, "#record-history")[0][2], rows_of(it, "#record-history"))
@@ -117,6 +118,9 @@ def histories(proxy: Proxy, language: str) -> None:
         it.picture("run-history")
         it.open("run")
         judge("no run, no history", not it.is_seen("#run-history"))
+        for state in (False, True):
+            it.driver.execute_script("document.querySelector('#run-history').open = arguments[0]", state)
+            time.sleep(0.3)
         same("the console complains of nothing", it.complaints(), [])
     finally:
         it.driver.quit()
@@ -127,6 +131,16 @@ def histories(proxy: Proxy, language: str) -> None:
             judge(f"registry: {view} has no history", not it.is_seen(".history"))
     finally:
         it.driver.quit()
+
+
+def narrow(it: Browser) -> None:
+    """No cell of a history lies over the next one on a small screen."""
+    size = {"width": 400, "height": 900, "deviceScaleFactor": 1, "mobile": False}
+    it.driver.execute_cdp_cmd("Emulation.setDeviceMetricsOverride", size)
+    wide = it.driver.execute_script("return [...document.querySelectorAll('#record-history tbody :is(th, td)')]"
+                                    ".filter((cell) => cell.scrollWidth > cell.clientWidth).map((cell) => cell.textContent)")
+    same("record 1: each cell has room at 400 pixels", wide, [])
+    it.driver.execute_cdp_cmd("Emulation.clearDeviceMetricsOverride", {})
 
 
 def signed_out(proxy: Proxy, language: str) -> None:
