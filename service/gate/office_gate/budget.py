@@ -4,6 +4,13 @@ from collections import Counter
 
 LINE_BYTES = 200
 """the bytes of a line besides its entry: its number, its moment and the SHA-256 of the line before"""
+ELSEWHERE = ("origin", "host")
+"""the words of refusals of what a page from elsewhere makes a browser send, by no will of whoever signed in there"""
+
+
+def share_of(name: str, word: str) -> str:
+    """Names the share that a refusal with this word takes. No name that somebody signs in with has a blank."""
+    return f"{name} elsewhere" if word in ELSEWHERE else name
 
 
 class Budget:

@@ -13,7 +13,7 @@ from office_gate import body, deciding, members, settings
 from office_gate.access import Access
 from office_gate.acts_index import ActsIndex
 from office_gate.body import Json
-from office_gate.budget import Budget
+from office_gate.budget import Budget, share_of
 from office_gate.catalogue import Aggregations, Catalogue
 from office_gate.catching import catch_up
 from office_gate.chain import START, Head, digest
@@ -356,7 +356,7 @@ class Gate:
     async def refuse(self, entry: Json, refused: Answered) -> None:
         """Writes the line of a refusal. Answered 429 `often` says that this name has no more of them today."""
         self.metrics.note("refused", refused.status, 0.0)
-        name, most = str(entry["name"]), self.access.journal_bytes
+        name, most = share_of(str(entry["name"]), refused.word), self.access.journal_bytes
         if refused.status < 500 and self.refusals.is_spent(name, most):
             raise Answered(429, "often")
         line = line_of("refused", entry, refused.word in WHOLE)
@@ -390,5 +390,7 @@ class Gate:
         """Writes the line of a reading."""
         self.metrics.note("read", status, 0.0)
         if self.access.journals_readings or status >= 400:
-            line = {"what": "read", **self.head(asked, request), "status": status, "bytes": length}
+            # a reason is for acts: every name that has a password reads something
+            line = {"what": "read", "name": asked.person.name, "from": asked.origin, "request": request,
+                    "status": status, "bytes": length}
             await self.journal.append(line, is_durable=False)

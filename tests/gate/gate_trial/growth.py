@@ -38,6 +38,9 @@ def tried(folder: pathlib.Path) -> None:
     members(world)
     hidden(world)
     older(world)
+    read(world)
+    world.reload(SETTINGS + f"limit journal-bytes {BUDGET}\n")
+    elsewhere(world)
     bounded(world)
     judge("the chain holds", world.check().returncode == 0, world.check().stderr)
     world.end()
@@ -114,9 +117,28 @@ def older(world: World) -> None:
     judge("its chain holds", done.returncode == 0 and f"{head}" in done.stdout, done.stdout + done.stderr)
 
 
+def read(world: World) -> None:
+    """The line of a reading has no text of the client: whoever has a password reads their own rights."""
+    size = world.journal.stat().st_size
+    lines = {"Office-Reason": "x" * 500, "Idempotency-Key": SECRET}
+    same("a stranger reads their rights", world.ask("stranger", "GET", "/rights", None, lines)[0], 200)
+    judge("the line has what was read", world.last("read")["request"] == "GET /rights", world.last("read"))
+    judge("and no reason", world.journal.stat().st_size - size < 400, world.last("read"))
+
+
+def elsewhere(world: World) -> None:
+    """What a page from elsewhere makes a browser send takes nothing of the share of the name that signed in there."""
+    for line in ({"Origin": "https://evil.example"}, {"Sec-Fetch-Site": "cross-site"}):
+        statuses = [world.ask("legal", "GET", "/records/1", None, line)[0] for _ in range(90)]
+        same(f"it is refused, and ends as others do: {line}", (statuses[0], statuses[-1]),
+             (403 if "Origin" in line else 429, 429))
+    size = len(world.lines())
+    same("the name's long list is read", world.text("legal", b"[" + b" " * 70_000 + b"]")[0], 200)
+    same("and its refusals have lines", (world.act("legal", {"act": "confirm"})[0], len(world.lines()) > size), (403, True))
+
+
 def bounded(world: World) -> None:
     """The refusals of a name take so many bytes of the journal on a day, and no more; another name has its own."""
-    world.reload(SETTINGS + f"limit journal-bytes {BUDGET}\n")
     size, count = world.journal.stat().st_size, len(world.lines())
     statuses = [world.act("department", {"act": "lift-hold", "hold": "H"})[0] for _ in range(120)]
     grown = world.journal.stat().st_size - size
