@@ -97,6 +97,8 @@ FORMS = (
             "look: a date of birth in a title"),
     Mistake("a failure begins with its raw answer", "page.js", "[...(rows.length ? rows.flatMap(explanation) : [paragraph(t(\"said.strange\"))]), details(answer)]",
             "[ownWords(answer), ...rows.flatMap(explanation)]", "refusal: it begins with words"),
+    Mistake("a view is not busy while the catalogue is read", "views/import.js", '  byId("import-sheet").setAttribute("aria-busy", "true");\n', "",
+            "named: in a sheet too, once the catalogue is read"),
     Mistake("a refused form does not say which field it is", "views/no_such.js", "if (!isHere) mark(", "if (false) mark(",
             "refusal: the field that names what is not there says so, and what is"),
     Mistake("a taken ref does not say whose it is", "views/file.js", "entry.fate?.refusal === EXISTS ? ", "entry.fate?.refusal === 0 ? ",

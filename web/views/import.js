@@ -105,14 +105,23 @@ function headerOf() {
   }
 }
 
-/** Finds what each row is: what somebody chose, else what the header shows. */
+/** What the catalogue has for rows of a kind; the view is busy until that is known. */
+async function lookUp(kind) {
+  byId("import-sheet").setAttribute("aria-busy", "true");
+  const catalogue = await acts.lookUp(kind);
+  byId("import-sheet").removeAttribute("aria-busy");
+  return catalogue ?? undefined;
+}
+
+/** Finds what each row is: what somebody chose, else what the header shows. Until then rows are of the kind that is shown. */
 async function findKind() {
   const { header } = headerOf();
   const shown = acts.kindShown(header);
-  sheet.kind = byId("import-kind").value || shown;
+  const kind = byId("import-kind").value || shown;
+  const catalogue = await lookUp(kind);
+  sheet.kind = kind;
+  Object.assign(sheet.options, { kind, catalogue });
   byId("import-kind").options[0].text = t("import.foundIs", { value: t(`${acts.PART}.kinds.${shown}`) });
-  sheet.options.kind = sheet.kind;
-  sheet.options.catalogue = (await acts.lookUp(sheet.kind)) ?? undefined;
   reading.takeKind(sheet.kind, changed);
   preview.takeKind(sheet.kind);
   byId("import-acts-about").hidden = sheet.kind === RECORDS;
