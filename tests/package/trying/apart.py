@@ -9,22 +9,27 @@ if TYPE_CHECKING:
     from trying.booted import Booted
 
 FOLDERS = ["/var/lib/office", "/var/lib/office-backups", "/var/lib/office-catalogues", "/var/lib/office-certificates",
-           "/var/lib/office-gate", "/var/lib/office-member", "/var/lib/office-registers", "/var/lib/office-seals",
-           "/var/lib/office-vaults", "/var/lib/office-vault-backups", "/var/lib/office-yearend",
-           "/var/cache/office-catalogue"]
+           "/var/lib/office-encrypted", "/var/lib/office-gate", "/var/lib/office-member", "/var/lib/office-registers",
+           "/var/lib/office-seals", "/var/lib/office-vaults", "/var/lib/office-vault-backups", "/var/lib/office-yearend",
+           "/var/cache/office-catalogue", "/var/cache/private/office-journal-check"]
+JOURNAL = "/var/log/office/NAME.journal"
 KEYS = ["/etc/office/NAME.key", "/etc/office/NAME.token", "/etc/office/NAME.access", "/etc/office/NAME.withdrawn",
-        "/var/log/office/NAME.journal", "/etc/nginx/office/gate_tokens.conf"]
+        JOURNAL, "/etc/nginx/office/gate_tokens.conf"]
+# what a unit sees of each office
+OF_EACH = {"KEYS": KEYS, "JOURNALS": [JOURNAL]}
 # what a unit sees of its own office; of another one it sees nothing
 SEES = {
     "office": ["office"],
-    "office-backup": ["office", "office-backups"],
+    "office-backup": ["office", "office-backups", "office-encrypted"],
     "office-catalogue": ["office", "office-catalogues", "office-catalogue"],
-    "office-certificates": ["office-certificates"],
+    # it looks for seals whose certificates are gone
+    "office-certificates": ["office-certificates", "office-seals"],
     "office-compact": [],
     "office-compact-file": ["office"],
     "office-failed": [],
     # its group may read the tokens of the gates, and journals lie in one folder
     "office-gate": ["office-gate", "office-catalogues", "KEYS"],
+    "office-journal-check": ["office-gate", "office-backups", "office-journal-check", "JOURNALS"],
     "office-overdue": ["office", "office-registers", "gate_tokens.conf"],
     "office-overdue-mail": ["office-registers"],
     "office-scrub": ["office-backups"],
@@ -49,7 +54,7 @@ LoadCredential=
 SetCredential=
 ExecStartPre=
 ExecStart=
-ExecStart=/bin/sh -c 'find /var/lib/office* /var/cache/office* /var/log/office /etc/office /etc/nginx/office -name "planted*" 2>/dev/null | sed "s/^/SEEN /"; find /etc/office /etc/nginx/office /var/log/office -type f 2>/dev/null | sed "s/^/SEEN /"'
+ExecStart=/bin/sh -c 'find /var/lib/office* /var/cache/office* /var/cache/private /var/log/office /etc/office /etc/nginx/office -name "planted*" 2>/dev/null | sed "s/^/SEEN /"; find /etc/office /etc/nginx/office /var/log/office -type f 2>/dev/null | sed "s/^/SEEN /"'
 ExecStartPost=
 ExecStopPost=
 ExecReload=
@@ -69,8 +74,12 @@ def looked(booted: "Booted", unit: str) -> list[str]:
     """Lists what a unit sees, by a start in which it looks around in place of its work."""
     instance = "office-backup@city" if unit == "office-failed" else "city"
     place = f"/run/systemd/system/{unit}@.service.d"
-    done = booted.run(f"mkdir -p {place}; cat >{place}/look.conf <<'END'\n{LOOK}END\n"
-                      f"systemctl daemon-reload; systemctl start '{unit}@{instance}'; journalctl --sync; "
+    # systemd starts no unit of a user of its own while others may enter that folder
+    mode = 700 if unit == "office-journal-check" else 755
+    done = booted.run(f"chmod {mode} /var/cache/private; mkdir -p {place}; cat >{place}/look.conf <<'END'\n{LOOK}END\n"
+                      # the unit that looked before may have started this one: no file takes OnSuccess= away
+                      f"systemctl daemon-reload; systemctl stop '{unit}@{instance}'; "
+                      f"systemctl start '{unit}@{instance}'; journalctl --sync; "
                       f"journalctl -o cat -u '{unit}@{instance}' | grep '^SEEN '; "
                       f"systemctl show -P Result '{unit}@{instance}'; rm -r {place}")
     return sorted(set(re.findall("SEEN (.*)", done.out))) if done.out.endswith("success\n") else [done.out + done.err]
@@ -80,8 +89,8 @@ def of(unit: str) -> set[str]:
     """What a unit should see, as paths."""
     wanted = set()
     for it in SEES[unit]:
-        keys = [key for key in KEYS if it in ("KEYS", key.split("/")[-1])]
-        wanted |= {key.replace("NAME", name) for key in keys for name in (("city", "court") if it == "KEYS" else ("city",))}
+        wanted |= {key.replace("NAME", name) for key in OF_EACH.get(it, []) for name in ("city", "court")}
+        wanted |= {key.replace("NAME", "city") for key in KEYS if key.split("/")[-1] == it}
         wanted |= {f"{folder}/city/planted" for folder in FOLDERS if folder.split("/")[-1] == it}
     return wanted
 
@@ -101,6 +110,8 @@ def judge_apart(booted: "Booted") -> None:
         else:
             judge(f"systemd: {unit}@ sees what it needs of its office, and nothing of another", seen == of(unit),
                   sorted(seen ^ of(unit)))
-    booted.run("; ".join(f"rm -f {it}/*/planted" for it in FOLDERS) + "; rm -f /etc/office/city.stamp; rm -rf /var/lib/office*/court; rm -f "
+    booted.run("; ".join(f"rm -f {it}/*/planted" for it in FOLDERS) + "; rm -f /etc/office/city.stamp; "
+               "rm -rf /var/lib/office*/court /var/cache/private/office-journal-check; chmod 700 /var/cache/private; "
+               "rm -f "
                + " ".join(it.replace("NAME", name) for it in KEYS for name in ("city", "court")))
     booted.run("systemctl daemon-reload; systemctl reset-failed 'office*'; systemctl start office@city")

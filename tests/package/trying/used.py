@@ -3,7 +3,6 @@ import hashlib
 import pathlib
 
 from making import staging
-from making.words import TOP
 from trying import copies
 from trying.judging import judge
 from trying.machine import Machine
@@ -15,10 +14,10 @@ AS_OFFICE = "setpriv --reuid office --regid office --clear-groups --no-new-privs
 SERVICE = (f"rm -f /tmp/line; {AS_OFFICE} office serve {CITY} 8081 100 >/tmp/line & "
            "until grep -qs listening /tmp/line; do sleep 0.1; done; ")
 ASKED = ("exec 3<>/dev/tcp/127.0.0.1/8081; printf 'GET /due/0001-01-01 HTTP/1.0\\r\\n\\r\\n' >&3; tail -n 1 <&3; ")
-STAYS = ("/var/lib/office", "/var/lib/office-backups", "/var/lib/office-registers", "/var/lib/office-catalogues",
-         "/var/lib/office-vaults", "/var/lib/office-vault-backups", "/var/lib/office-gate", "/var/lib/office-yearend",
-         "/var/log/office",
-         "/var/cache/office-catalogue", "/etc/office")
+STAYS = ("/var/lib/office", "/var/lib/office-backups", "/var/lib/office-encrypted", "/var/lib/office-registers",
+         "/var/lib/office-catalogues", "/var/lib/office-vaults", "/var/lib/office-vault-backups", "/var/lib/office-gate",
+         "/var/lib/office-yearend", "/var/log/office", "/var/cache/office-catalogue",
+         "/var/cache/office-journal-check", "/etc/office")
 SUMS = "find /var/lib/office /var/lib/office-backups /etc/office -type f -exec sha256sum {} + | sort"
 UNIT = "/etc/systemd/system/multi-user.target.wants/office@city.service"
 
