@@ -14,13 +14,14 @@ FOLDERS = ["/var/lib/office", "/var/lib/office-backups", "/var/lib/office-catalo
            "/var/cache/office-catalogue", "/var/cache/private/office-journal-check"]
 JOURNAL = "/var/log/office/NAME.journal"
 KEYS = ["/etc/office/NAME.key", "/etc/office/NAME.token", "/etc/office/NAME.access", "/etc/office/NAME.withdrawn",
+        "/etc/office/NAME.recipients", "/etc/office/NAME.tsa.pem",
         JOURNAL, "/etc/nginx/office/gate_tokens.conf"]
 # what a unit sees of each office
 OF_EACH = {"KEYS": KEYS, "JOURNALS": [JOURNAL]}
 # what a unit sees of its own office; of another one it sees nothing
 SEES = {
     "office": ["office"],
-    "office-backup": ["office", "office-backups", "office-encrypted"],
+    "office-backup": ["office", "office-backups", "office-encrypted", "NAME.recipients"],
     "office-catalogue": ["office", "office-catalogues", "office-catalogue"],
     # it looks for seals whose certificates are gone
     "office-certificates": ["office-certificates", "office-seals"],
@@ -34,7 +35,7 @@ SEES = {
     "office-overdue-mail": ["office-registers"],
     "office-scrub": ["office-backups"],
     "office-seal": ["office-certificates", "office-seals", "NAME.withdrawn"],
-    "office-stamp": ["office-seals"],
+    "office-stamp": ["office-seals", "NAME.tsa.pem"],
     "office-vault": ["office-vaults"],
     "office-vault-check": ["office-vaults"],
     "office-vault-sweep": ["office-vaults"],

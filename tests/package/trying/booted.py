@@ -6,6 +6,7 @@ import time
 
 from trying.apart import judge_apart
 from trying.judging import judge
+from trying.kept import judge_kept, put
 from trying.machine import Done, Machine, run
 from trying.stopping import ASK_FILE, judge_compaction, judge_hung, judge_missing, judge_pruned, judge_stopping
 
@@ -73,6 +74,7 @@ def judge_units(booted: Booted) -> None:
     judge("systemd: a backup makes a copy while it serves", done.out == "1\n", done)
     judge_stopping(booted)
     judge_compaction(booted)
+    judge_kept(booted)
     judge_pruned(booted)
     judge_apart(booted)
     judge_hung(booted)
@@ -104,6 +106,7 @@ def judge_booted(machine: Machine, first: pathlib.Path, second: pathlib.Path) ->
     machine.put(first, "/root/office.deb")
     machine.put(second, "/root/second.deb")
     machine.put(ASK_FILE, "/root/ask.py")
+    put(machine)
     with Booted(machine) as booted:
         if not booted.is_up():
             print("not run here, since systemd-nspawn cannot boot on this machine: units under systemd")

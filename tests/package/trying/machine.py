@@ -5,8 +5,8 @@ import shutil
 import subprocess
 from typing import NamedTuple
 
-# what an administrator's machine has, and the office needs: see the package's fields
-PACKAGES = "adduser,python3,sqlite3,systemd"
+# what an administrator's machine has, and the office and its services need: see the package's fields
+PACKAGES = "adduser,age,openssh-client,openssl,python3,python3-aiohttp,python3-h11,sqlite3,systemd"
 # processes, network and mounts of its own
 SPACE = ["unshare", "--mount", "--net", "--pid", "--fork", "--kill-child", "--mount-proc"]
 # a busy machine packs a program in minutes

@@ -160,8 +160,11 @@ def kept(it: Machine) -> None:
     for place in ("/var/lib/office/city", "/var/lib/office-vaults/court", "/var/lib/office-backups/city", "/root"):
         seen = it.run("nsenter -t $(systemctl show -p MainPID --value office-vault@city) -m ls -A " + place)[1]
         judge(f"the service sees nothing of {place}", not seen or "cannot" in seen, seen)
-    it.run(f"systemctl kill --signal=KILL office-vault@city; sleep 4")
-    same("a service that was killed starts again", it.run("systemctl is-active office-vault@city")[1], "active")
+    # a start takes its time on a busy machine
+    it.run("systemctl kill --signal=KILL office-vault@city; sleep 1; for n in $(seq 300); do "
+           "systemctl is-active --quiet office-vault@city && break; sleep 0.2; done")
+    same("a service that was killed starts again", it.run("systemctl is-active office-vault@city; "
+                                                          "systemctl show -P NRestarts office-vault@city")[1], "active\n1")
     it.run(f"rm {CITY}/objects/{name[:2]}/{name}")
     status, said = it.run("systemctl start office-vault-check@city; systemctl is-failed office-vault-check@city; "
                           "journalctl -u office-vault-check@city --no-pager | grep missing; sleep 2; "
