@@ -232,8 +232,11 @@ def compared(it: Machine) -> None:
                           f"--beside $(ls {COPIES}/*Z.db | tail -n 1)")
     judge("it shows", status == 1 and "holds code PAST" in said, said)
     checked(it, "the check of the night shows it", 1, "differs: holds code PAST")
-    same("its failure is reported", it.run("journalctl -o cat -p err -u office-failed@office-journal-check@city --no-pager "
-                                           "| grep -c 'office-journal-check@city failed'")[1], "1")
+    # the unit that reports it runs after the one that failed
+    same("its failure is reported", it.run("for n in $(seq 300); do journalctl -o cat -p err --no-pager "
+                                           "-u office-failed@office-journal-check@city | grep -c "
+                                           "'office-journal-check@city failed' && break; sleep 0.2; done | tail -n 1")[1],
+         "1")
     it.done(f"ls {COPIES}/*Z.db | head -n -1 | xargs rm; systemctl start office-backup@city", "one more night")
     checked(it, "the check of the night after", 0, "differences: 0")
 

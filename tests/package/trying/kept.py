@@ -125,11 +125,8 @@ def judge_journal(booted: "Booted") -> None:
     judge_started(booted, "the nightly check does the acts between two copies once more", "office-journal-check@town",
                   ("success 0", "differences: 0"))
     place = "/var/cache/private/office-journal-check/town"
-    done = booted.run(f"grep -c NEXT {JOURNAL}; find {place} -mindepth 1; echo '{{}}' >>{JOURNAL}")
+    done = booted.run(f"grep -c NEXT {JOURNAL}; find {place} -mindepth 1")
     judge("systemd: the act is in the journal, and no copy is left", done.out == "1\n", done)
-    judge_started(booted, "a line that somebody added to the journal fails the nightly check",
-                  "office-journal-check@town", ("exit-code 1", "line "))
-    judge_reported(booted, "office-journal-check@town")
 
 
 def judge_kept(booted: "Booted") -> None:

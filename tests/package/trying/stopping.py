@@ -3,6 +3,7 @@ import pathlib
 import time
 from typing import TYPE_CHECKING
 
+from trying.copies import older
 from trying.judging import judge
 
 if TYPE_CHECKING:
@@ -13,6 +14,8 @@ SMALL = "/var/lib/office/small"
 ASK = "python3 -I /root/ask.py"
 ASK_FILE = pathlib.Path(__file__).with_name("ask.py")
 AS_OFFICE = "setpriv --reuid office --regid office --clear-groups"
+# a copy of an earlier release
+OLD = "/etc/nginx/office/http.conf"
 LOG = f"stat -c %s {CITY}/office.db-wal"
 
 
@@ -153,7 +156,8 @@ def judge_nights(booted: "Booted") -> None:
           done.out.startswith("office www-data 2750\n") and done.status == 0, done)
     booted.run(f"cat >/usr/bin/mail <<'END'\n{MAIL}END\nchmod 755 /usr/bin/mail; "
                "mkdir -p /var/lib/office-registers/other; "
-               "printf 'MAIL_TO=records@localhost\\nFAILED_TO=\"a@localhost b@localhost\"\\n' >/etc/office/city.mail")
+               "printf 'MAIL_TO=records@localhost\\nFAILED_TO=\"a@localhost b@localhost\"\\n' >/etc/office/city.mail; "
+               f"mkdir -p /etc/nginx/office; cat >{OLD} <<'END'\n{older('nginx/http.conf')}END\n")
     done = booted.run("systemctl start office-overdue@city && stat -c '%U %G %a' /var/lib/office-registers/city/*.csv; "
                       "until journalctl -u office-overdue-mail@city | grep -q 'Finished\\|Failed'; do sleep 0.2; done; "
                       "journalctl -o cat -u office-overdue-mail@city")
@@ -162,6 +166,8 @@ def judge_nights(booted: "Booted") -> None:
     judge("systemd: it is mailed, by one who sees no office, no copy and no other register",
           "records@localhost" in done.out and "\nrecord," in done.out and "office.db" not in done.out
           and "other" not in done.out and "Z.db" not in done.out, done)
+    judge("systemd: it names a configuration of an earlier version", f"\nold {OLD}\n" in done.out, done)
+    booted.run(f"rm {OLD}")
     done = booted.run("cp /etc/office/city.conf /etc/office/none.conf; cp /etc/office/city.mail /etc/office/none.mail; "
                       "systemctl start office-backup@none; until journalctl -u 'office-failed@*' | "
                       "grep -q 'Finished\\|Failed'; do sleep 0.2; done; journalctl -o cat -p err -u 'office-failed@*'; "
