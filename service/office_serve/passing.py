@@ -10,6 +10,9 @@ from office_serve.watching import Watch
 BLOCK = 65536
 ANSWER_SECONDS = 60
 """a client has as long for the whole answer as the program gives it"""
+HEAD_SECONDS = 5
+"""a client has as long for the head of a request where readings alone are served, so that it holds up nobody's act"""
+ENDS_OF_HEAD = (b"\n\r\n", b"\n\n")
 
 
 class Way:
@@ -19,6 +22,9 @@ class Way:
         self.source, self.sink = source, sink
         self.waiting = b""
         self.beginning = b""
+        # whether the head is whole, and the last bytes that may begin its end
+        self.has_head = False
+        self.last = b""
         self.has_ended = False
         self.is_open = True
         # how a request has to begin, where readings alone are served
@@ -36,6 +42,9 @@ class Way:
         except OSError:
             block = b""
         self.beginning = (self.beginning + block)[:16]
+        self.last += block
+        self.has_head = self.has_head or any(end in self.last for end in ENDS_OF_HEAD)
+        self.last = self.last[-2:]
         size = min(len(self.only), len(self.beginning))
         self.is_refused = self.beginning[:size] != self.only[:size]
         self.has_ended = not block
@@ -68,6 +77,7 @@ class Passing:
         self.request, self.answer = Way(client, link), Way(link, client)
         self.request.only = only
         self.answer_ends: float | None = None
+        self.head_ends = time.monotonic() + HEAD_SECONDS if only else None
         for it in (client, link):
             it.setblocking(False)
 
@@ -94,12 +104,15 @@ class Passing:
         return "the request under way took longer than may be" if stop.is_asked() and stop.left() == 0 else ""
 
     def seconds_left(self, stop: Stop) -> float | None:
-        """Returns how long may be waited: for the client's reading, and for the end."""
+        """Returns how long may be waited: for the client's head, for its reading, and for the end."""
         if self.is_answered() and self.answer_ends is None:
             self.answer_ends = time.monotonic() + ANSWER_SECONDS
-        of_client = None if self.answer_ends is None else self.answer_ends - time.monotonic()
-        both = [it for it in (of_client, stop.left()) if it is not None]
-        return min(both) if both else None
+        if self.request.has_head or self.is_answered():
+            self.head_ends = None
+        of_client = [ends - time.monotonic() for ends in (self.answer_ends, self.head_ends) if ends is not None]
+        left = stop.left()
+        times = [*of_client, *([] if left is None else [left])]
+        return min(times) if times else None
 
     def step(self, stop: Stop, seconds: float) -> None:
         """Waits until something can be passed, and passes it."""
