@@ -150,7 +150,7 @@ def own(view: View) -> None:
     says(
         "class: it is done",
         view.ask("class", **{"day": "2026-03-01", "class": "LET"}),
-        "Done: the class of record:5.",
+        "Done: the class of record 5.",
         "It is due on 2027-01-02.",
     )
     same("class: which the view has, with its schedule", view.facts(), ("LET", "ADD-3"))

@@ -122,8 +122,10 @@ def asked_for(it: Browser, deed: Deed) -> str:
     # what an act would do is shown once nobody writes any more
     time.sleep(0.4)
     it.settled()
-    if deed.tick and not it.one(f"#{deed.tick}").is_selected():
-        it.driver.execute_script("arguments[0].click()", it.one(f"#{deed.tick}"))
+    # a tick that the page does not ask for is not there, and an act that lacks one is not sent
+    for box in it.driver.find_elements(By.CSS_SELECTOR, f"#{deed.tick}") if deed.tick else []:
+        if not box.is_selected():
+            it.driver.execute_script("arguments[0].click()", box)
     it.press(f"#{deed.form} button:not([type])")
     return it.one(f"#{deed.form}-outcome").text
 
