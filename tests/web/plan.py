@@ -138,7 +138,7 @@ def changed(plan: Plan) -> None:
     says(
         "plan: an aggregation gets another class",
         plan.ask({"act": "reclassify", "target": "aggregation:4", "class": "GEN-COR", **day}),
-        "Done: aggregation:4.",
+        "Done: aggregation 4.",
     )
     same("plan: which its records have then", told(8, "class", "schedule"), ("GEN-COR", "COR-3"))
     plan.ask({"act": "reclassify", "target": "record:8", "class": "PER-APP", **day})
