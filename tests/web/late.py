@@ -246,20 +246,23 @@ def carried_out(story: Story) -> None:
 
 
 def clock(story: Story) -> None:
-    """Today is the day of the browser's clock, also on a page that stays open over midnight."""
+    """Today is the day of the browser's clock, also on a page that stays open over midnight.
+
+    The view asks nothing of the server as a day is written: its answer would show that the two clocks differ.
+    """
     it = story.browser
-    it.open(f"{story.proxy.page}#run")
+    it.open(f"{story.proxy.page}#plan")
     it.driver.execute_script(CLOCK, 1)
     same(
-        "over midnight a day that nobody wrote is today again", it.one("#run-open-day").get_attribute("value"), after(1)
+        "over midnight a day that nobody wrote is today again", it.one("#plan-schedule-day").get_attribute("value"), after(1)
     )
-    it.write(run_open_day=after(1))
-    same("and the new day is not late", it.text("#run-open-day-late"), "")
-    it.write(run_open_day=after(2))
+    it.write(plan_schedule_day=after(1))
+    same("and the new day is not late", it.text("#plan-schedule-day-late"), "")
+    it.write(plan_schedule_day=after(2))
     words = LATE.format(day=after(2), today=after(1), clock=CLOCKS["here"])
-    says("but the one after it is", it.text("#run-open-day-late"), words)
+    says("but the one after it is", it.text("#plan-schedule-day-late"), words)
     it.driver.execute_script("dispatchEvent(new Event('focus'))")
-    same("and a day that somebody wrote stays", it.one("#run-open-day").get_attribute("value"), after(2))
+    same("and a day that somebody wrote stays", it.one("#plan-schedule-day").get_attribute("value"), after(2))
 
 
 def all_forms(browser: Browser) -> None:

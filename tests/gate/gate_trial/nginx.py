@@ -85,8 +85,8 @@ def own(proxy: Proxy) -> None:
         "auditor", "GET", "/city/catalogue/records.json", None, {"Accept-Encoding": "gzip"})[1])[:10], b'{"moment":')
     same("runs of a name with classes", proxy.ask("department", "GET", "/city/catalogue/runs.json"),
          (403, b'{"error":"class","read":"catalogue"}'))
-    same("a history", kinds(proxy.ask("auditor", "GET", "/city/history?hold=H")[1]),
-         ["lift-hold", "place-hold"])
+    # a lift without the right to it left no act
+    same("a history", kinds(proxy.ask("auditor", "GET", "/city/history?hold=H")[1]), ["place-hold"])
     same("no history", proxy.ask("registry", "GET", "/city/history?hold=H"), (403, b'{"error":"right","read":"history"}'))
     same("what was done since", kinds(proxy.ask("auditor", "GET", "/city/since?moment=2026-11-29T06:20:00Z")[1])[-1:],
          ["place-hold"])
