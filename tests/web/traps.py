@@ -85,7 +85,7 @@ def hold_on_paper(story: Story) -> None:
     saved = story.folder / "hold-MANY-2026-01.csv"
     it.wait(saved.exists, "no CSV of the targets is saved")
     lines = saved.read_text("utf-8-sig").splitlines()
-    same("holds: the targets are saved as CSV", (lines[0], len(lines)), ("kind,target,ref,title", MANY + 1))
+    same("holds: the targets are saved as CSV", (lines[0], len(lines)), ('"kind","target","ref","title"', MANY + 1))
 
 
 def stale(story: Story) -> None:

@@ -150,7 +150,10 @@ def one_run(clerks: Clerks) -> None:
         clerks.one.press("#run-resume button")
     text = clerks.story.office.ask("GET", "/certificates/2")[2].decode()
     judge("two: one run: it is carried out, and was opened by one of both", f"BY {ONE}" in text or f"BY {OTHER}" in text, text)
-    judge("two: one run: one of both has opened it, or one after the other", any(opened), str(opened))
+    ended = [TEXTS["run"]["resumed"].split("{")[0] in it.seen("#run-resume-outcome") for it, _ in clerks.both]
+    # once a run is carried out, its view no longer says that it is open
+    judge("two: one run: one of both is told that it is open, or that it is carried out", any(opened) or any(ended),
+          f"{opened} {ended}")
     for it, name in clerks.both:
         seen = it.seen("#run-resume-outcome")
         words = (TEXTS["run"]["resumed"].split("{")[0], TEXTS["forecast"]["changed"], "NoRun")
