@@ -189,7 +189,11 @@ def read(it: Browser, role: str, view: str) -> None:
         word = "403 class" if role == "archive" and thing == "records" else "403 right"
         same(f"{role}, {it.language}: {view} shows its {thing}", it.is_seen(css), there)
         if not there:
-            both = all(words[word][part] in seen for part in ("meaning", "do"))
+            # the catalogue has a sentence of its own: there may be one that others read
+            own = texts(it.language, "catalogue")
+            why = [own["unread"], own["unreadDo"]] if view == "catalogue" else [words[word][part]
+                                                                                for part in ("meaning", "do")]
+            both = all(sentence in seen for sentence in why)
             judge(f"{role}, {it.language}: {view} says why not", both, seen[:600])
 
 
