@@ -3,7 +3,7 @@
 
     .ci/commands.py help [NAME]     prints the help of the program, or of a command, as the program prints it
     .ci/commands.py operands NAME   prints the operands of a command; status 1 if there is no such command
-    .ci/commands.py check           whether the table of README.md and the help in the tests have the same commands
+    .ci/commands.py check           compares the commands with the table of README.md and the help in the tests
 """
 import pathlib
 import re
@@ -73,7 +73,7 @@ def wrong() -> list[str]:
 def main(words: list[str]) -> int:
     if words == ["check"]:
         found = wrong()
-        print("".join(f".ci/commands.py: {it}\n" for it in found), end="", file=sys.stderr)
+        print("".join(f"FAILED: {it}\n" for it in found) + f"{len(commands())} passed, {len(found)} failed")
         return 1 if found else 0
     if words == ["help"]:
         print(help_of_all(), end="")

@@ -1,16 +1,28 @@
-"""Runs trials of a list one after another, and says of each whether it passed (tests/run, bench/all)."""
+"""Runs trials of a list, some at a time, each within its limit, and reports how each ended."""
+import concurrent.futures
+import os
 import pathlib
 import re
+import shutil
 import signal
 import subprocess
-import sys
 import tempfile
+import threading
 import time
-from collections.abc import Sequence
-from typing import NamedTuple, NoReturn
+from collections.abc import Iterable, Sequence
+from typing import NamedTuple
+
+import needs
 
 TOP = pathlib.Path(__file__).resolve().parent.parent
-LAST = re.compile(r"^([\d,]+) passed, ([\d,]+) failed$")
+COUNTS = re.compile(r"^([\d,]+) (?:passed|seen|apply), ([\d,]+) (?:failed|not seen|do not)$")
+SHARE = re.compile(r"^([\d,]+) of ([\d,]+) found$")
+# a trial that cannot be run here ends with this status, and its last line says why
+SKIPPED = 77
+# a network of one's own, and processes that end with the trial
+SPACES = ["unshare", "-n", "-p", "-f", "--kill-child", "--mount-proc",
+          "sh", "-c", 'ip link set lo up; "$@"; exit $?', "sh"]
+DAY = 86_400
 # the parts of the project after whose change a trial is run, by what is in each
 PARTS = {
     "contract": "any clause, comment or mutant",
@@ -24,90 +36,184 @@ PARTS = {
     "package": "packaging, service, tools, CHANGELOG.md",
     "replicas": "replicas, service/replicas, docs/REPLICAS.md",
 }
+TAIL, JUDGED = 20, 40
+"""how many lines of a failed trial are printed: of its end, and of what failed"""
 
 
 class Trial(NamedTuple):
-    """A trial: its command from the top, what it tries, its parts, what it needs, and the minutes that it took."""
+    """A trial: its command from the top, what it tries, its parts, what it needs, its minutes, its limit in seconds."""
 
     command: str
     tries: str
-    parts: str
+    parts: str = ""
     needs: str = "program"
     minutes: int | None = None
+    limit: int = DAY
+    space: str = "own"
 
     @property
     def name(self) -> str:
-        return self.command.split(" ")[0].removeprefix("tests/").removeprefix("bench/").removesuffix("/run")
+        """The name that a user gives: the folder of the command, with the part if the trial is one part of it."""
+        command, *parts = [part for part in self.command.split(" ") if not part.startswith("-") and not part.isdigit()]
+        base = command.removeprefix("tests/").removeprefix("bench/").removeprefix(".ci/").removesuffix("/run").removesuffix(".py")
+        return f"{base}/{parts[0]}" if len(parts) == 1 and self.limit < DAY else base
 
 
-def stop(*_: object) -> NoReturn:
-    raise KeyboardInterrupt
+class Outcome(NamedTuple):
+    """The end of a trial: `passed`, `failed` or `skipped`, its last line or the reason, and its seconds."""
+
+    trial: Trial
+    verdict: str
+    last: str
+    clock: float = 0
+    processor: float = 0
+
+    def __str__(self) -> str:
+        verdict = "FAILED" if self.verdict == "failed" else self.verdict
+        took = f", {self.clock:.0f} s ({self.processor:.0f} of a processor)" if self.clock else ""
+        return f"{verdict}: {self.trial.name}{took}: {self.last}"
 
 
-def listed(trials: Sequence[Trial]) -> str:
-    lines = [f"{'trial':19} {'minutes':>7}  {'needs':19} {'parts':27} what it tries"]
-    lines += [f"{it.name:19} {it.minutes or '-':>7}  {it.needs or '-':19} {it.parts:27} {it.tries}" for it in trials]
-    return "\n".join([*lines, "", *(f"{name:10} {what}" for name, what in PARTS.items())])
+class Running:
+    """Trials that are run: where their logs are, the program, and the moments after which none begins or goes on."""
 
+    def __init__(self, program: pathlib.Path | None, begin_until: float, end_at: float) -> None:
+        self.program, self.begin_until, self.end_at = program, begin_until, end_at
+        self.logs = pathlib.Path(tempfile.mkdtemp(prefix="office-test-"))
+        self.logs.chmod(0o755)
+        self.printing = threading.Lock()
+        self.children: set[int] = set()
+        self.stopped = False
 
-def chosen(trials: Sequence[Trial], words: list[str], runner: str) -> list[Trial]:
-    """The trials that the words ask for: those of names in the order of the names, others in that of the list."""
-    if words[:1] == ["--after"]:
-        if not words[1:] or not set(words[1:]) <= set(PARTS):
-            sys.exit(f"{runner}: parts are {', '.join(PARTS)}")
-        return [it for it in trials if set(it.parts.split()) & set(words[1:])]
-    named = {it.name: it for it in trials}
-    strange = [it for it in words if it not in named]
-    if strange:
-        sys.exit(f"{runner}: there is no trial {', '.join(strange)}: see {runner} --list")
-    return [named[it] for it in words] if words else list(trials)
+    def run_all(self, trials: Sequence[Trial], at_once: int) -> list[Outcome]:
+        """Runs trials in their order, as many at once, and prints how each ended."""
+        with concurrent.futures.ThreadPoolExecutor(at_once) as pool:
+            running = [pool.submit(self.run, trial) for trial in trials]
+            try:
+                return [done.result() for done in running]
+            except KeyboardInterrupt:
+                self.stop()
+                raise
 
+    def stop(self) -> None:
+        """Ends what runs, and lets no other trial begin."""
+        self.stopped = True
+        for child in list(self.children):
+            end_group(child, signal.SIGTERM)
 
-def has_passed(trial: Trial, log: pathlib.Path) -> bool:
-    """Runs a trial, and prints how it ended with its last line."""
-    began = time.time()
-    with log.open("wb") as out:
-        child = subprocess.Popen(trial.command.split(" "), cwd=TOP, stdin=subprocess.DEVNULL, stdout=out, stderr=out)
+    def run(self, trial: Trial) -> Outcome:
+        """Runs one trial, unless the machine lacks what it needs or the time is over, and prints how it ended."""
+        lacks = [why for why in (needs.lack(name, self.program) for name in trial.needs.split()) if why]
+        if lacks:
+            outcome = Outcome(trial, "skipped", "; ".join(lacks))
+        elif self.is_over():
+            outcome = Outcome(trial, "skipped", "no time is left")
+        else:
+            outcome = self.run_here(trial)
+        with self.printing:
+            print(outcome, flush=True)
+            if outcome.verdict == "failed":
+                print("\n".join(f"    {line}" for line in worst_lines(self.log_of(trial))), flush=True)
+        return outcome
+
+    def is_over(self) -> bool:
+        """Whether no other trial begins."""
+        return self.stopped or time.time() > self.begin_until
+
+    def log_of(self, trial: Trial) -> pathlib.Path:
+        """The file of all that a trial wrote."""
+        return self.logs / trial.name.replace("/", "_")
+
+    def run_here(self, trial: Trial) -> Outcome:
+        """Runs a trial, in a network and with processes of its own if the machine allows them."""
+        own = SPACES if trial.space == "own" and needs.has_spaces() else []
+        folder = pathlib.Path(tempfile.mkdtemp(prefix="t", dir=self.logs))
+        folder.chmod(0o755)
+        environment = {**os.environ, "TMPDIR": str(folder)}
+        if self.program:
+            environment["OFFICE"] = str(self.program)
+        log, began = self.log_of(trial), time.time()
+        with log.open("wb") as out:
+            child = subprocess.Popen([*own, *trial.command.split(" ")], cwd=TOP, stdin=subprocess.DEVNULL, stdout=out,
+                                     stderr=out, env=environment, start_new_session=True)
+        status, processor, is_late = self.wait_for(child, min(began + trial.limit, self.end_at))
+        outcome = judged(trial, log, status, is_late and time.time() < self.end_at, is_late)
+        if outcome.verdict != "failed":
+            shutil.rmtree(folder, ignore_errors=True)
+        return outcome._replace(clock=time.time() - began, processor=processor)
+
+    def wait_for(self, child: subprocess.Popen[bytes], end: float) -> tuple[int, float, bool]:
+        """The status of a trial, its seconds of a processor, and whether it was ended since its time was over."""
+        self.children.add(child.pid)
+        is_late = False
         try:
-            status = child.wait()
-        except KeyboardInterrupt:
-            child.terminate()
-            child.wait()
-            raise
-    lines = log.read_text(errors="replace").split("\n")
-    last = next((it for it in reversed(lines) if it.strip()), "")
-    counts = LAST.match(last)
-    passed = status == 0 and (counts is None or int(counts[2].replace(",", "")) == 0)
-    took = time.time() - began
-    print(f"{'passed' if passed else 'FAILED'}: {trial.command}, {took:.0f} s, status {status}: {last}", flush=True)
-    return passed
+            while True:
+                ended, status, used = os.wait4(child.pid, os.WNOHANG)
+                if ended:
+                    child.returncode = os.waitstatus_to_exitcode(status)
+                    return child.returncode, used.ru_utime + used.ru_stime, is_late
+                if time.time() > end:
+                    end_group(child.pid, signal.SIGKILL if is_late else signal.SIGTERM)
+                    is_late, end = True, time.time() + 10
+                time.sleep(0.1)
+        finally:
+            self.children.discard(child.pid)
 
 
-def run_all(trials: Sequence[Trial]) -> int:
-    """Runs the trials in order; the status is 0 if all passed."""
-    logs = pathlib.Path(tempfile.mkdtemp(prefix="office-trials-"))
-    print(f"what each writes is in {logs}", flush=True)
-    done: list[bool] = []
+def end_group(child: int, how: signal.Signals) -> None:
+    """Sends a signal to a trial and all that it started in its group."""
     try:
-        for it in trials:
-            done.append(has_passed(it, logs / it.name.replace("/", "_")))
-    except KeyboardInterrupt:
-        print(f"stopped, with {len(trials) - len(done)} of {len(trials)} trials not ended", file=sys.stderr)
-        print(f"{sum(done)} passed, {len(trials) - sum(done)} failed")
-        return 130
-    print(f"{sum(done)} passed, {len(done) - sum(done)} failed")
-    return 0 if all(done) else 1
+        os.killpg(child, how)
+    except ProcessLookupError:
+        pass
 
 
-def main(runner: str, usage: str, trials: Sequence[Trial], words: list[str]) -> int:
-    """What a runner does with its words."""
-    signal.signal(signal.SIGTERM, stop)
-    if words == ["--list"]:
-        print(listed(trials))
-        return 0
-    if words[:1] in (["--help"], ["-h"]):
-        print(usage)
-        return 0
-    if words[:1] and words[0].startswith("-") and words[0] != "--after":
-        sys.exit(usage)
-    return run_all(chosen(trials, words, runner))
+def number(text: str) -> int:
+    """A count as trials print it."""
+    return int(text.replace(",", ""))
+
+
+def judged(trial: Trial, log: pathlib.Path, status: int, is_over_limit: bool, is_late: bool) -> Outcome:
+    """How a trial ended: it passed if its status is 0, its last line counts no failure, and something was judged."""
+    lines = [line for line in log.read_text(errors="replace").split("\n") if line.strip()]
+    last = lines[-1].strip() if lines else "nothing was printed"
+    if is_over_limit:
+        return Outcome(trial, "failed", f"did not end within {trial.limit} seconds; {last}")
+    if is_late:
+        return Outcome(trial, "skipped", f"no time was left to end it; {last}")
+    if status == SKIPPED:
+        return Outcome(trial, "skipped", last.removeprefix("skipped: "))
+    counts, share = COUNTS.match(last), SHARE.match(last)
+    if counts:
+        holds = number(counts[1]) > 0 and number(counts[2]) == 0
+    elif share:
+        holds = number(share[1]) == number(share[2]) > 0
+    else:
+        holds = trial.limit == DAY
+    return Outcome(trial, "passed" if status == 0 and holds else "failed", last if status == 0 else f"status {status}: {last}")
+
+
+def worst_lines(log: pathlib.Path) -> list[str]:
+    """What a failed trial printed: each judgement that failed, with the line below it, and the end."""
+    lines = log.read_text(errors="replace").rstrip("\n").split("\n")
+    wrong = [number for number, line in enumerate(lines) if re.match(r"\s*(FAILED|failed|wrong)\b", line)]
+    chosen = sorted({near for number in wrong[:JUDGED] for near in (number, number + 1)} |
+                    set(range(max(len(lines) - TAIL, 0), len(lines))))
+    return [lines[number][:400] for number in chosen if number < len(lines)]
+
+
+def chosen(trials: Iterable[Trial], names: Sequence[str]) -> list[Trial]:
+    """The trials of these names, and those below them; all trials if there is no name."""
+    return [trial for trial in trials
+            if not names or any(trial.name == name or trial.name.startswith(f"{name}/") for name in names)]
+
+
+def after(trials: Iterable[Trial], parts: Sequence[str]) -> list[Trial]:
+    """The trials that are run after a change of these parts of the project."""
+    return [trial for trial in trials if set(trial.parts.split()) & set(parts)]
+
+
+def counted(outcomes: Sequence[Outcome]) -> str:
+    """The last line of a run: the trials that passed and that failed, counted."""
+    verdicts = [outcome.verdict for outcome in outcomes]
+    return f"{verdicts.count('passed')} passed, {verdicts.count('failed')} failed"
