@@ -9,8 +9,8 @@ from collections.abc import Iterable, Iterator
 from typing import NamedTuple
 
 TOP = pathlib.Path(__file__).resolve().parent.parent
-# Debian's own Python and commands come first: its packages are what the trials use
-os.environ["PATH"] = f"/usr/bin:/usr/sbin:/bin:/sbin:{os.environ.get('PATH', '')}"
+# where commands are looked for: Debian's own Python comes first, since its packages are what the trials use
+PATH = f"/usr/bin:/usr/sbin:/bin:/sbin:{os.environ.get('PATH', '')}"
 POLICY = pathlib.Path("/usr/sbin/policy-rc.d")
 SECONDS = 900
 """an installation that takes longer does not end"""
@@ -57,7 +57,7 @@ NEEDS = {
 @functools.cache
 def has_module(name: str) -> bool:
     """Whether the Python that runs the trials has a module."""
-    done = subprocess.run(["python3", "-c", f"import {name}"], capture_output=True)
+    done = subprocess.run([shutil.which("python3", path=PATH) or "python3", "-c", f"import {name}"], capture_output=True)
     return done.returncode == 0
 
 
@@ -72,7 +72,7 @@ def has_spaces() -> bool:
 def is_here(name: str) -> bool:
     """Whether the machine has what a need names."""
     need = NEEDS[name]
-    return (all(shutil.which(command) for command in need.commands.split())
+    return (all(shutil.which(command, path=PATH) for command in need.commands.split())
             and all(has_module(module) for module in need.modules.split())
             and all(os.path.exists(file) for file in need.files.split()))
 

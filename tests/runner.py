@@ -130,6 +130,8 @@ class Running:
         folder = pathlib.Path(tempfile.mkdtemp(prefix="t", dir=self.logs))
         folder.chmod(0o755)
         environment = {**os.environ, "TMPDIR": str(folder)}
+        if "kit" not in trial.needs.split():
+            environment["PATH"] = needs.PATH
         if self.program:
             environment["OFFICE"] = str(self.program)
         log, began = self.log_of(trial), time.time()
