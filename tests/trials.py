@@ -1,9 +1,9 @@
 """The trials: checks that take seconds, the trials of a landing with their limits, and whole trials, which take hours."""
 from runner import Trial
 
-GATE = "program root spaces aiohttp h11 sqlite3 openssl"
-VAULT = "program root spaces sqlite3 openssl curl"
-PAGE = "program root spaces nginx openssl sqlite3 chromium jsonschema nodejs"
+GATE = "program root aiohttp h11 sqlite3 openssl"
+VAULT = "program root sqlite3 openssl curl"
+PAGE = "program root nginx openssl sqlite3 chromium jsonschema nodejs"
 # commands that plant mistakes, and report whether a trial sees each
 PLANTED = ("tests/gate/mutants", "tests/vault/mutants", "tests/transfer/mutants", "tests/intake/mutants",
            "tests/web/mutants", "tests/replicas_mutants")

@@ -23,7 +23,7 @@ export const isConfirmDays = (text) => /^[0-9]{1,9}$/.test(text) && Number(text)
 /** A title, a ref, a reason or a name: 1 to 200 bytes of UTF-8 without control characters. */
 export function isText(text) {
   const bytes = encoder.encode(text).length;
-  return bytes >= 1 && bytes <= 200 && text.isWellFormed?.() !== false && !/[\u0000-\u001f\u007f-\u009f]/.test(text);
+  return bytes >= 1 && bytes <= 200 && !/[\u0000-\u001f\u007f-\u009f\p{Surrogate}]/u.test(text);
 }
 
 /** What a hold is put on: a class by its code, an aggregation or a record by its number. */
