@@ -4,7 +4,7 @@ from __future__ import annotations
 from collections.abc import Callable
 from typing import NamedTuple
 
-from checks import data, javascript, machine, nginx_files, page, python_files, shell, texts, type_counts, units
+from checks import data, javascript, machine, mutants, nginx_files, package, page, python_files, shell, texts, type_counts, units
 from checks.finding import Finding
 from checks.tree import is_ours, is_python, is_shell, suffix
 
@@ -69,4 +69,12 @@ CHECKS = (
     Check("keepalived", "blocks of keepalived are balanced", ends("keepalived.conf"), machine.keepalived),
     Check("access", "settings of a gate, by office-gate", ends(".access"), machine.access),
     Check("members", "settings of a member, by the member", ends("service/replicas/city.json"), machine.members),
+    Check("lists", "what the packages have is there, and what is there they have",
+          lambda name: name in package.LISTS or name.startswith(("service/", "replicas/")), package.lists),
+    Check("manual", "manual pages, by groff and mandoc", package.has_page, package.manuals),
+    Check("completion", "the completion as it is made, by bash", ends("packaging/completion"), package.completion),
+    Check("hooks", "what Debian runs before and after, as it is made", ends("/postinst", "/prerm", "/postrm"), package.hooks),
+    Check("changelog", "the versions, in Debian's form", lambda name: name == "CHANGELOG.md", package.changelog),
+    Check("mutants", "planted mistakes of the companions can still be planted", mutants.is_planted, mutants.applied),
+    Check("copyright", "the copyright names a holder and a licence", ends("packaging/copyright"), package.copyright_text),
 )
