@@ -1,6 +1,5 @@
 """docs/VAULT.md: a vault is set up, a file goes in and comes out, is checked, swept, copied and restored."""
 import json
-import time
 
 from pages_run.expected import Row, run_page
 from pages_run.judging import judge

@@ -1,5 +1,4 @@
 """Deciding: titles, files for spreadsheet programs, the list for approval, contents looked at, and the search by details."""
-import base64
 import csv
 import json
 import pathlib

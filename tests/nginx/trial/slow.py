@@ -7,7 +7,7 @@ import subprocess
 import time
 
 from trial import place
-from trial.judging import judge, same
+from trial.judging import same
 from trial.place import ask, connected, context, run
 
 ATTACK = ["slowhttptest", "-H", "-c", "1000", "-r", "300", "-i", "5", "-l", "30", "-u", "https://localhost/web/"]

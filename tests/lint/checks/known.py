@@ -1,0 +1,43 @@
+"""The findings of type checkers that are known: known.txt has how many a file may have."""
+from __future__ import annotations
+
+import collections
+import pathlib
+
+from checks.finding import Finding
+from checks.tree import TOP
+
+LIST = pathlib.Path(__file__).resolve().parent.parent / "known.txt"
+
+
+def lines_of(tool: str) -> dict[str, tuple[int, int]]:
+    """Reads the lines of a tool: for each file how many findings are known, and the line that says it."""
+    known = {}
+    for at, line in enumerate(LIST.read_text(encoding="utf-8").split("\n"), 1):
+        fields = line.split()
+        if fields[:1] == [tool]:
+            known[fields[1]] = int(fields[2]), at
+    return known
+
+
+def compared(tool: str, errors: list[Finding], names: list[str]) -> list[Finding]:
+    """Returns the errors of each file that has more than known, and a finding for each line that is too high.
+
+    `names` are the files that were read: a line of another file is not judged, unless that file is gone.
+    """
+    by_file = collections.defaultdict(list)
+    for error in errors:
+        by_file[error.file].append(error)
+    known, where = lines_of(tool), str(LIST.relative_to(TOP))
+    findings = []
+    for file, own in sorted(by_file.items()):
+        most, _ = known.get(file, (0, 0))
+        if len(own) > most:
+            findings += [it._replace(text=f"{it.text} ({tool} has {len(own)} here, and {most} known)") for it in own]
+    for file, (most, line) in known.items():
+        count = len(by_file[file])
+        if not (TOP / file).is_file():
+            findings.append(Finding(where, line, f"{file} is gone: take its line out"))
+        elif file in names and count < most:
+            findings.append(Finding(where, line, f"{tool} has {count} for {file}: lower it to {count}"))
+    return findings

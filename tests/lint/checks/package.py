@@ -1,0 +1,151 @@
+"""What the package is made of: its lists, manual pages, completion, hooks and copyright."""
+from __future__ import annotations
+
+import importlib
+import pathlib
+import re
+import sys
+import tempfile
+from typing import Any
+
+from checks.finding import Finding, Skipped, call, line_of, need
+from checks.tree import TOP, files, interpreter, read, suffix
+
+LISTS = ("packaging/files", "packaging/replicas/files", "packaging/copies")
+# what lies in service and is in no list: pages for the repository, and programs for a trial of three members on one machine
+LEFT_OUT = ("service/replicas/three", "service/replicas/README.md")
+VERSION, DAY = "1.0", "2026-01-01"
+
+
+def making(name: str) -> Any:
+    """Returns a module of packaging/making."""
+    if str(TOP / "packaging") not in sys.path:
+        sys.path.append(str(TOP / "packaging"))
+    return importlib.import_module(f"making.{name}")
+
+
+def rows(name: str) -> list[tuple[int, str, str]]:
+    """Returns the lines of a list: number, source and place."""
+    lines = enumerate(read(name).split("\n"), 1)
+    return [(at, *(line.split() + ["", ""])[:2]) for at, line in lines if line and not line.startswith("#")]
+
+
+def lists(names: list[str]) -> list[Finding]:
+    """Compares the lists with the repository: each source is there, and each file of service is in a list."""
+    findings: list[Finding] = []
+    covered: set[str] = set()
+    for name in LISTS:
+        seen: set[str] = set()
+        for at, source, place in rows(name):
+            own = [it for it in files() if it == source or it.startswith(f"{source}/")]
+            covered |= set(own) if name != "packaging/copies" else set()
+            if not own:
+                findings.append(Finding(name, at, f"{source} is not there"))
+            if not place.startswith("/") or place.endswith("/") or len(read(name).split("\n")[at - 1].split()) != 2:
+                findings.append(Finding(name, at, "no line of a source and a folder"))
+            if source in seen:
+                findings.append(Finding(name, at, f"{source} is there twice"))
+            if place == "/usr/bin" and not all(interpreter(it) for it in own):
+                findings.append(Finding(name, at, f"{source} has no first line that names its program"))
+            seen.add(source)
+    for it in files():
+        if it.startswith(("service/", "replicas/")) and it not in covered and it not in LEFT_OUT and suffix(it) != ".md":
+            findings.append(Finding(it, 1, "no list of packaging names it: add it to packaging/files or packaging/replicas/files"))
+    return [it for it in findings if it.file in names]
+
+
+def pages() -> dict[str, str]:
+    """Makes the manual pages, by the file that each is of."""
+    manual, staging = making("manual"), making("staging")
+    texts = {"README.md": manual.office(VERSION, DAY, staging.scripts_in("files"))}
+    for of in ("files", "replicas/files"):
+        for it in staging.listed(of):
+            if it.folder == "usr/bin":
+                name = str(it.source.relative_to(TOP))
+                texts[name] = manual.script(it.source.name, it.source.read_text(), VERSION, DAY)
+    return texts
+
+
+def has_page(name: str) -> bool:
+    """Whether the package makes a manual page of a file."""
+    return name == "README.md" or any(source == name and place == "/usr/bin" for it in LISTS[:2] for _, source, place in rows(it))
+
+
+def manuals(names: list[str]) -> list[Finding]:
+    """Makes each manual page, and has groff and mandoc read it."""
+    need("groff", "mandoc")
+    findings = []
+    with tempfile.TemporaryDirectory(prefix="lint-manual-") as folder:
+        for name, text in pages().items():
+            if name not in names:
+                continue
+            page = pathlib.Path(folder, "page.1")
+            page.write_text(text)
+            complaints = call(["groff", "-K", "utf8", "-man", "-Tutf8", "-ww", "-z", page]).text.splitlines()
+            complaints += [it for it in call(["mandoc", "-T", "lint", "-W", "warning", page]).text.splitlines() if it]
+            for it in complaints:
+                at = re.search(r"page\.1:(\d+)", it)
+                piece = text.split("\n")[int(at[1]) - 1] if at else ""
+                findings.append(Finding(name, line_of(read(name), piece[:30]), f"its manual page: {it.partition('page.1:')[2]}: {piece[:60]}"))
+            for part in ("NAME", "SYNOPSIS", "DESCRIPTION"):
+                body = re.search(rf"^\.SH {part}\n(?!\.SH)(.+)", text, re.M)
+                if not body:
+                    findings.append(Finding(name, 1, f"its manual page has nothing under {part}"))
+    return findings
+
+
+def completion(names: list[str]) -> list[Finding]:
+    """Makes the completion, and has bash read it."""
+    need("bash")
+    with tempfile.TemporaryDirectory(prefix="lint-completion-") as folder:
+        made = pathlib.Path(folder, "office")
+        making("staging").put_completion(made)
+        text = made.read_text()
+        done = call(["bash", "-n", made])
+    findings = [Finding(names[0], 1, f"{mark} is still there") for mark in re.findall(r"@[A-Z]+@", text)]
+    if done.status or done.text:
+        at = re.search(r"line (\d+)", done.text)
+        findings.append(Finding(names[0], int(at[1]) if at else 1, done.text.strip()[:200]))
+    return findings
+
+
+def hooks(names: list[str]) -> list[Finding]:
+    """Makes what Debian runs before and after, and has sh read it."""
+    findings = []
+    for name in names:
+        of = "replicas/files" if "/replicas/" in name else "files"
+        text = making("staging").hooks(of)[pathlib.PurePosixPath(name).name]
+        done = call(["sh", "-n"], given=text)
+        if done.status or done.text or re.search(r"@[A-Z]+@", text):
+            findings.append(Finding(name, 1, done.text.strip()[:200] or "a place for a name is still there"))
+    return findings
+
+
+def copyright_text(names: list[str]) -> list[Finding]:
+    """Looks whether the copyright names its holder and its licence."""
+    findings = []
+    for name in names:
+        text = read(name)
+        for word in ("Copyright", "licen[cs]e"):
+            if not re.search(word, text):
+                findings.append(Finding(name, 1, f"it does not say {word}"))
+    return findings
+
+
+def changelog(names: list[str]) -> list[Finding]:
+    """Makes Debian's changelog of CHANGELOG.md, and has dpkg-parsechangelog read it."""
+    need("dpkg-parsechangelog")
+    module = making("changelog")
+    text = read("CHANGELOG.md")
+    versions = [it for it in module.versions() if "+git" not in it.number]
+    if not versions:
+        raise Skipped("no version has a number")
+    with tempfile.TemporaryDirectory(prefix="lint-changelog-") as folder:
+        made = pathlib.Path(folder, "changelog")
+        made.write_text(module.debian(versions, "A Name <name@example.org>"))
+        done = call(["dpkg-parsechangelog", "--all", "-l", made])
+    findings = [Finding(names[0], 1, line) for line in done.text.splitlines() if "warning" in line or "error" in line]
+    days = [it.day for it in versions]
+    if days != sorted(days, reverse=True):
+        findings.append(Finding(names[0], line_of(text, "## "), "the days of the versions do not go back"))
+    return findings
