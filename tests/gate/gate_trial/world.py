@@ -229,9 +229,9 @@ class World:
     def last(self, what: str) -> dict:
         return next(it for it in reversed(self.lines()) if it["what"] == what)
 
-    def check(self) -> subprocess.CompletedProcess:
-        return subprocess.run([PYTHON, "-I", JOURNAL, "check", self.journal], capture_output=True, text=True,
-                              check=False)
+    def check(self, *more: object) -> subprocess.CompletedProcess:
+        return subprocess.run([PYTHON, "-I", JOURNAL, "check", self.journal, *map(str, more)], capture_output=True,
+                              text=True, check=False)
 
 
 def parted(found: bytes) -> tuple[int, bytes]:
