@@ -12,6 +12,8 @@ from collections.abc import Callable
 from pathlib import Path
 from typing import Any
 
+from office_vault.durable import sync_folder
+
 from office_gate import chain
 from office_gate.chain import Head
 from office_gate.contents import Contents
@@ -61,6 +63,8 @@ class Journal:
             fcntl.flock(self.file, fcntl.LOCK_EX | fcntl.LOCK_NB)
         except BlockingIOError:
             raise Refused(3, f"another process writes {self.path}") from None
+        # whoever made the file: its lines are on the disk only with its name
+        sync_folder(self.path.parent)
         self.follow()
 
     def follow(self) -> None:
@@ -111,6 +115,7 @@ class Journal:
             if self.rest is None:
                 # what is no line needs no LF at its end: the next line tells of it in the new file too
                 self.write(b"", True)
+            sync_folder(self.path.parent)
         except OSError:
             os.close(new)
             raise

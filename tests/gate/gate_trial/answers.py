@@ -127,7 +127,7 @@ def cut(world: World, stand: Stand) -> None:
         same(f"{name}: an act", world.act("legal", ACT), (502, {"error": "unknown"}))
         same(f"{name}: it was sent once", len(stand.asked), 1)
         line = world.last("answered")
-        same(f"{name}: the journal says that nobody knows", (line["status"], line["known"]), (502, False))
+        same(f"{name}: the journal says that nobody knows", (line["status"], line.get("known", True)), (502, False))
 
 
 def strange(world: World, stand: Stand) -> None:

@@ -193,6 +193,19 @@ def catalogue(world: World) -> None:
     status, said = world.act("clerk", filing(8, 20))
     same("a file that the catalogue knows", (status, said), (409, [{"refused": 5}]))
     refused(world, "it still does after an act", filing(8, 2))
+    ahead(world, [{**it, "class": MINE if it["number"] == 1 else FOREIGN} for it in rows])
+    write_catalogue(world, time.time() - 3600, rows)
+    refused(world, "nor does an older one", filing(8, 2))
+
+
+def ahead(world: World, rows: list[dict]) -> None:
+    """A catalogue whose clock was a minute ahead, and was put right since, hides nothing that was done after it."""
+    move = {"act": "reclassify", "target": "aggregation:1"}
+    same("a file gets a foreign class", world.act("records-manager", {**move, "class": FOREIGN})[0], 200)
+    write_catalogue(world, time.time() + 60, rows)
+    refused(world, "a catalogue of a clock that was ahead does not hide that", filing(8, 1))
+    same("and gets back its own", world.act("records-manager", {**move, "class": MINE})[0], 200)
+    same("that is known too", world.act("clerk", filing(8, 1, b"x", ref="after"))[0], 200)
 
 
 def unknown(world: World) -> None:

@@ -9,7 +9,7 @@ import ssl
 import subprocess
 import time
 
-from gate_trial.world import STARTED, TOKEN, TOP, free_port, parted, said
+from gate_trial.world import TOKEN, TOP, end, free_port, lead, parted, said
 
 NGINX = TOP / "service/nginx"
 MODULE = "/usr/lib/nginx/modules/ngx_http_js_module.so"
@@ -60,9 +60,7 @@ class Proxy:
         (self.folder / name).write_text(text)
 
     def start(self) -> None:
-        self.process = subprocess.Popen(["nginx", "-c", self.folder / "nginx.conf", "-e",
-                                         self.folder / "log/start.log"])
-        STARTED.append(self.process)
+        self.process = lead(["nginx", "-c", str(self.folder / "nginx.conf"), "-e", str(self.folder / "log/start.log")])
         for _ in range(200):
             try:
                 socket.create_connection(("127.0.0.1", self.port), 1).close()
@@ -73,8 +71,8 @@ class Proxy:
 
     def stop(self) -> None:
         if self.process:
-            self.process.terminate()
-            self.process.wait()
+            end(self.process)
+            self.process = None
 
     # ---- requests
 

@@ -16,6 +16,7 @@ def tried(folder: pathlib.Path) -> None:
     cut(world)
     second(world)
     elsewhere(world)
+    into_the_vault(world)
     nginx_alone(world)
     paths(world)
     same("nothing of all this was sent to the office", sum(it["what"] == "asked" for it in world.lines()), 2)
@@ -119,6 +120,29 @@ def elsewhere(world: World) -> None:
     for host in ("127.0.0.1", "evil.example", "localhost:8080", "localhost.", ""):
         wanted(world, f"host {host!r}", head(length, f"Host: {host}", without="Host") + BODY, 421, 400)
     wanted(world, "two hosts", head(length, "Host: localhost") + BODY, 400)
+
+
+def into_the_vault(world: World) -> None:
+    """A file goes into the vault by a page of this site, whatever nginx let through: asked for, and reported."""
+    path = f"Office-Path: /vault/{'a' * 64}"
+
+    def lines(*more: str, first: str, origin: str) -> bytes:
+        given = head("Office-Name: registry", *more, first=first, without="Office-Name")
+        return given.replace(b"\r\nOrigin: https://localhost", f"\r\nOrigin: {origin}".encode() if origin else b"")
+
+    for first, more in (("GET /may HTTP/1.1", ("Office-Method: PUT", path)), ("GET /stored?length=1 HTTP/1.1", (path,))):
+        for origin, fetched in (("", ""), ("", "none"), ("", "same-site"), ("", "cross-site"), ("null", ""),
+                                ("https://evil.example", ""), ("https://localhost", "cross-site")):
+            named = f"Sec-Fetch-Site: {fetched}" if fetched else "X-Other: 1"
+            same(f"{first[:12]}, origin '{origin}', '{fetched}'",
+                 wanted(world, f"{first[:12]}, origin '{origin}', '{fetched}'",
+                        lines(*more, named, first=first, origin=origin), 403), {"error": "origin"})
+        for origin, named in (("https://localhost", "X-Other: 1"), ("", "Sec-Fetch-Site: same-origin")):
+            status, _ = parted(world.raw(lines(*more, named, first=first, origin=origin)))
+            judge(f"{first[:12]}, from a page of this site", status in (201, 204), status)
+    kept = ("put", "stored")
+    same("what was taken is in the journal", [it["what"] for it in world.lines() if it["what"] in kept],
+         ["put", "put", "stored", "stored"])
 
 
 def nginx_alone(world: World) -> None:

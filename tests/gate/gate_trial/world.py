@@ -1,4 +1,5 @@
 """An office and a gate for the trial: the real program, served, and the gate at a socket of its own."""
+import contextlib
 import http.client
 import json
 import os
@@ -22,14 +23,42 @@ SITE = "site https://localhost\nzone {zone}\n"
 
 STARTED: list[subprocess.Popen[Any]] = []
 """what the trial started, to end it however the trial ends"""
+LEADERS: set[int] = set()
+"""which of these have a process group of their own"""
+END_SECONDS = 10
+"""what a program takes at most to end by SIGTERM"""
+PORTS: set[int] = set()
+"""the ports that this trial handed out"""
+
+
+def lead(words: list[str]) -> subprocess.Popen[Any]:
+    """Starts a program with a process group of its own, which ends with it."""
+    process = subprocess.Popen(words, start_new_session=True)
+    STARTED.append(process)
+    LEADERS.add(process.pid)
+    return process
+
+
+def end(process: subprocess.Popen[Any]) -> None:
+    """Ends a program by SIGTERM, as nginx needs it to end its workers, and by SIGKILL what then is left of its group."""
+    process.terminate()
+    with contextlib.suppress(subprocess.TimeoutExpired):
+        process.wait(END_SECONDS)
+    with contextlib.suppress(ProcessLookupError):
+        os.killpg(process.pid, signal.SIGKILL)
+    process.wait()
 
 
 def end_all() -> None:
+    """Ends what was started: what has a group of its own with all of that."""
     for it in STARTED:
-        # nginx ends its workers, which outlive a kill
-        it.send_signal(signal.SIGTERM if it.args[0] == "nginx" else signal.SIGKILL)
-        it.wait()
+        if it.pid in LEADERS:
+            end(it)
+        else:
+            it.kill()
+            it.wait()
     STARTED.clear()
+    LEADERS.clear()
 
 
 def today(days: int = 0) -> str:
@@ -37,8 +66,13 @@ def today(days: int = 0) -> str:
 
 
 def free_port() -> int:
-    with socket.create_server(("127.0.0.1", 0)) as it:
-        return it.getsockname()[1]
+    """Returns a port that nobody listens at, each one once."""
+    while True:
+        with socket.create_server(("127.0.0.1", 0)) as it:
+            port = int(it.getsockname()[1])
+        if port not in PORTS:
+            PORTS.add(port)
+            return port
 
 
 class World:
@@ -195,9 +229,9 @@ class World:
     def last(self, what: str) -> dict:
         return next(it for it in reversed(self.lines()) if it["what"] == what)
 
-    def check(self) -> subprocess.CompletedProcess:
-        return subprocess.run([PYTHON, "-I", JOURNAL, "check", self.journal], capture_output=True, text=True,
-                              check=False)
+    def check(self, *more: object) -> subprocess.CompletedProcess:
+        return subprocess.run([PYTHON, "-I", JOURNAL, "check", self.journal, *map(str, more)], capture_output=True,
+                              text=True, check=False)
 
 
 def parted(found: bytes) -> tuple[int, bytes]:

@@ -1,0 +1,271 @@
+"""A power cut at each point between two syncs: what is on the disk then is a journal, and has each line that counts.
+
+A kill leaves what the system has. A power cut leaves what is synced, and of the rest any part. Both are laid down here
+from a trace of one gate's calls, and a gate starts on each.
+"""
+import asyncio
+import contextlib
+import io
+import pathlib
+import shutil
+import sys
+import tempfile
+from collections.abc import Iterator
+from dataclasses import dataclass
+
+from gate_trial.calls import Traced, is_there
+from gate_trial.disk import Disk, File
+from gate_trial.judging import judge, same
+from gate_trial.seen import Line, Seen, digests
+from gate_trial.workload import SETTINGS, Client, alone, files, placing, started, together, turned
+from gate_trial.world import JOURNAL, SITE, SOURCES, TOKEN, World
+
+sys.path[:0] = [str(JOURNAL.parent), str(SOURCES / "vault"), str(SOURCES)]
+
+from office_gate import chain, checking, starting  # noqa: E402
+from office_gate.errors import Refused  # noqa: E402
+from office_gate.gate import Gate  # noqa: E402
+
+SAMPLE = 6
+"""on so many of the cuts the gate itself starts, and acts"""
+Names = dict[str, bytes]
+"""what is in a folder, by the names of files"""
+
+
+@dataclass
+class Promise:
+    """A moment from which on a line has to be on the disk, whatever happens."""
+
+    begins: int
+    line: Line
+    why: str
+
+
+def tried(folder: pathlib.Path) -> None:
+    if not is_there():
+        print("skipped: no strace", flush=True)
+        return
+    world = started(folder / "world")
+    client = Client(world)
+    alone(client)
+    files(client)
+    together(client, "A")
+    turned(world, "journal-20260101")
+    together(client, "B")
+    turned(world, "journal-20260102", creates=True)
+    together(client, "C")
+    seen = Seen(world, world.calls())
+    same("each request that was sent has one line", seen.faults(), [])
+    promises = promised(seen)
+    judge("there are promises of each kind", {it.why for it in promises} == KINDS, {it.why for it in promises})
+    cuts = moments(seen.disk)
+    judge("the power is cut at many points", len(cuts) >= 60, len(cuts))
+    with emptied(folder) as place:
+        room = Room(place, world)
+        for count, moment in enumerate(cuts):
+            certain(room, seen, promises, moment, f"cut {count}, what is synced")
+            torn(room, seen, promises, moment, f"cut {count}, a part of the rest")
+        judge("many disks were laid down", room.count >= 200, room.count)
+        for moment in cuts[1::max(1, len(cuts) // SAMPLE)]:
+            begun(room, seen, promises, moment)
+    world.end()
+
+
+@contextlib.contextmanager
+def emptied(folder: pathlib.Path) -> Iterator[pathlib.Path]:
+    """Gives a folder in memory, where a sync costs nothing, or one of the trial's where there is none."""
+    memory = pathlib.Path("/dev/shm")
+    place = pathlib.Path(tempfile.mkdtemp(prefix="gate-power-", dir=memory if memory.is_dir() else folder))
+    try:
+        yield place
+    finally:
+        shutil.rmtree(place, ignore_errors=True)
+
+
+KINDS = {"the office has it", "the client has its answer", "the vault gets it", "it is in the vault", "its head is printed"}
+
+
+def promised(seen: Seen) -> list[Promise]:
+    """Lists from when on which line counts: once the office, a client, nginx, or a person who reads heads goes by it."""
+    found = []
+    for act in seen.acts():
+        found.append(Promise(act.office.sends[0].begins, act.asked, "the office has it"))
+        found += [Promise(act.client.sends[0].begins, it, "the client has its answer") for it in act.answers]
+    for what, why in (("put", "the vault gets it"), ("stored", "it is in the vault")):
+        found += [Promise(client.sends[0].begins, line, why) for line, client in seen.others(what)]
+    for number, _, begins in seen.printed():
+        line = seen.line(number)
+        assert line is not None
+        found.append(Promise(begins, line, "its head is printed"))
+    return found
+
+
+def moments(disk: Disk) -> list[int]:
+    """Lists the moments before each sync of the journal, at which the most is not on the disk, and the end."""
+    syncs = {begins for it in [*disk.files(), disk.journal] for begins, _ in it.syncs}
+    ends = {place for it in disk.files() for place, _, _ in it.changes}
+    return sorted(syncs) + [max(ends | syncs) + 1]
+
+
+# ---- what a disk may have
+
+def laid(disk: Disk, names: int, contents: dict[int, bytes]) -> Names:
+    """Returns the files of a journal by their names, after so many changes of names."""
+    return {name: contents[id(it)] for name, it in disk.journal.now(names).items()}
+
+
+def synced(disk: Disk, moment: int) -> Names:
+    """Returns what is certain to be on the disk."""
+    return laid(disk, disk.journal.synced(moment), {id(it): it.synced(moment) for it in disk.files()})
+
+
+def partly(disk: Disk, moment: int) -> Iterator[Names]:
+    """Gives what may be on the disk beside that: each prefix of the names, and of the bytes; or zeros for bytes."""
+    certain_ones = {id(it): it.synced(moment) for it in disk.files()}
+    for names in range(disk.journal.synced(moment), disk.journal.done(moment) + 1):
+        yield laid(disk, names, certain_ones)
+        for file in disk.files():
+            for data in prefixes(file, moment):
+                yield laid(disk, names, certain_ones | {id(file): data})
+
+
+def prefixes(file: File, moment: int) -> Iterator[bytes]:
+    begin, whole = len(file.synced(moment)), file.content(moment)
+    for length in file.lengths(begin, len(whole)) if len(whole) > begin else []:
+        yield whole[:length]
+    if len(whole) > begin:
+        yield whole[:begin] + bytes(len(whole) - begin)
+
+
+# ---- what has to hold
+
+class Room:
+    """A folder in which a journal is laid down, and a gate begins on it."""
+
+    def __init__(self, folder: pathlib.Path, world: Traced) -> None:
+        self.folder, self.world = folder, world
+        (folder / "access").write_text(SITE.format(zone="UTC") + SETTINGS)
+        (folder / "token").write_text(TOKEN)
+        self.journal, self.state = folder / "log/journal", folder / "state"
+        self.count = 0
+
+    def lay(self, names: Names) -> None:
+        """Lays a journal down; every second one beside what the gate had noted at its end, which is ahead of it."""
+        for it in (self.journal.parent, self.state):
+            shutil.rmtree(it, ignore_errors=True)
+            it.mkdir()
+        for name, data in names.items():
+            (self.journal.parent / name).write_bytes(data)
+        self.count += 1
+        if self.count % 2:
+            for it in self.world.state.glob("facts.db*"):
+                shutil.copy(it, self.state)
+
+    def begin(self) -> None:
+        """Begins a gate as its service does, up to its first request."""
+        places = starting.Places(self.folder / "access", self.journal, self.state, self.folder / "token", None, None)
+
+        async def run() -> None:
+            gate = starting.opened(places, "127.0.0.1:9")
+            try:
+                await starting.begin(gate)
+            finally:
+                ended(gate)
+        with contextlib.redirect_stderr(io.StringIO()):
+            asyncio.run(run())
+
+    def check(self, promises: list[Promise]) -> str:
+        """Checks the chain with the heads that count, and returns what is wrong with it."""
+        heads = {chain.Head(it.line.number, it.line.sha256) for it in promises}
+        try:
+            checking.check(chain.files_of(self.journal), heads)
+        except Refused as refused:
+            return str(refused)
+        return ""
+
+    def lines(self) -> list[bytes]:
+        """Returns all that lies between two LFs."""
+        return [it for path in self.journal.parent.iterdir() for it in path.read_bytes().split(b"\n") if it]
+
+
+def ended(gate: Gate) -> None:
+    gate.index.end()
+    gate.index.db.close()
+    gate.facts.db.close()
+    gate.journal.close()
+
+
+def certain(room: Room, seen: Seen, promises: list[Promise], moment: int, what: str) -> None:
+    due = [it for it in promises if it.begins < moment]
+    same(what, wrong_with(room, synced(seen.disk, moment), due), "")
+    same(f"{what}: the contents of what the office has", missing(seen, due, moment), [])
+
+
+def torn(room: Room, seen: Seen, promises: list[Promise], moment: int, what: str) -> None:
+    due = [it for it in promises if it.begins < moment]
+    faults = [wrong_with(room, it, due) for it in partly(seen.disk, moment)]
+    same(what, [it for it in faults if it], [])
+
+
+def wrong_with(room: Room, names: Names, due: list[Promise]) -> str:
+    """Lays a journal down, begins a gate on it, and returns what is wrong with what comes of that."""
+    room.lay(names)
+    digests_here = {chain.digest(it) for it in room.lines()}
+    for it in due:
+        if it.line.sha256 not in digests_here:
+            return f"line {it.line.number} is not there, and {it.why}: {[(name, len(data)) for name, data in names.items()]}"
+    try:
+        room.begin()
+    except (Exception, SystemExit) as error:
+        return f"no gate begins: {error!r}"
+    entries = [entry for it in room.lines() if (entry := chain.entry_of(chain.Line(room.journal, 0, it, True)))]
+    asked = sorted(it["line"] for it in entries if it["what"] == "asked")
+    if asked != sorted(it["of"] for it in entries if it["what"] == "answered"):
+        return f"of the lines {asked} not each has one answer"
+    return room.check(due)
+
+
+def missing(seen: Seen, due: list[Promise], moment: int) -> list[str]:
+    """Lists the lines whose contents the disk does not have, of those that the office got and took."""
+    folder = seen.disk.contents
+    names, found = folder.now(folder.synced(moment)), []
+    for it in due:
+        entry = it.line.entry
+        if it.why != "the office has it" or "contents" not in entry or not was_taken(seen, it.line):
+            continue
+        file, at = names.get(entry["contents"]["day"]), entry["contents"]["from"]
+        contents = [act["content"] for act in entry["acts"] if "content" in act]
+        data = file.synced(moment)[at:] if file else b""
+        if digests(data, [each["bytes"] for each in contents]) != [each["sha256"] for each in contents]:
+            found.append(f"line {it.line.number}")
+    return found
+
+
+def was_taken(seen: Seen, line: Line) -> bool:
+    """Reports whether the office did all of a list, so that the gate freed none of its contents."""
+    return any(it.entry["of"] == line.number and it.entry["status"] == 200 for it in seen.of("answered"))
+
+
+def begun(room: Room, seen: Seen, promises: list[Promise], moment: int) -> None:
+    """A gate starts on what a cut leaves, its command finds the chain whole, and it acts."""
+    due, disk = [it for it in promises if it.begins < moment], seen.disk
+    *_, names = partly(disk, moment)
+    world = World(room.folder / f"start-{moment}", SETTINGS)
+    world.port = room.world.port
+    for name, data in names.items():
+        (world.folder / name).write_bytes(data)
+    for it in room.world.state.glob("facts.db*"):
+        shutil.copy(it, world.state)
+    world.start_gate()
+    same("after a cut: an act", world.act("legal", placing(f"S{moment}"))[0], 200)
+    (world.folder / "heads").write_text("\n".join(it.line.head for it in due))
+    done = world.check("--heads", world.folder / "heads")
+    judge("after a cut: the chain has each head", done.returncode == 0, done.stderr)
+    same("after a cut: and compares all of them", count_of(done.stdout), len({it.line.number for it in due}))
+    world.stop_gate()
+    world.log.close()
+
+
+def count_of(text: str) -> int:
+    """Returns how many heads a check compared."""
+    return int(text.partition("heads compared: ")[2].partition(",")[0])
