@@ -101,9 +101,14 @@ class Boot:
         self.remove_groups()
 
     def remove_groups(self) -> None:
-        """Removes its control groups, which are empty once its last process has ended."""
-        for group in self.groups:
-            for place, _, _ in os.walk(group, topdown=False):
-                with contextlib.suppress(OSError):
-                    os.rmdir(place)
+        """Removes its control groups, which the kernel holds for a moment after its last process has ended."""
+        for _ in range(50):
+            for group in self.groups:
+                for place, _, _ in os.walk(group, topdown=False):
+                    with contextlib.suppress(OSError):
+                        os.rmdir(place)
+            self.groups = [it for it in self.groups if it.exists()]
+            if not self.groups:
+                break
+            time.sleep(0.1)
         self.groups = []
