@@ -4,6 +4,7 @@ import contextlib
 import time
 
 from selenium import webdriver
+from selenium.common.exceptions import SessionNotCreatedException
 from selenium.webdriver.chrome.service import Service
 from selenium.webdriver.common.by import By
 from selenium.webdriver.support.ui import Select
@@ -22,6 +23,18 @@ window.fetch = async (...words) => {
 WAIT = 300
 
 
+# how often it is tried to start Chromium, whose driver gives up after a minute
+STARTS = 5
+
+
+def started(options):
+    """Starts Chromium, also on a machine that is busy with other work."""
+    for _ in range(STARTS):
+        with contextlib.suppress(SessionNotCreatedException):
+            return webdriver.Chrome(service=Service("/usr/bin/chromedriver"), options=options)
+    raise AssertionError("Chromium does not start")
+
+
 class Browser:
     def __init__(self, folder, language="en-US"):
         options = webdriver.ChromeOptions()
@@ -31,7 +44,8 @@ class Browser:
         options.set_capability("acceptInsecureCerts", True)
         options.set_capability("goog:loggingPrefs", {"browser": "ALL"})
         options.add_experimental_option("prefs", {"download.default_directory": str(folder), "intl.accept_languages": language})
-        self.driver = webdriver.Chrome(service=Service("/usr/bin/chromedriver"), options=options)
+        self.driver = started(options)
+        self.driver.set_page_load_timeout(WAIT)
         self.driver.set_script_timeout(WAIT)
         self.width(1280)
 

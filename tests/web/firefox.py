@@ -4,6 +4,7 @@ Firefox asks nobody for a password and trusts no key of its own accord. So a ser
 nginx with the password, and gives the answers on at http://localhost, which browsers trust as they do https. It also
 keeps Firefox from its picture until the page has had time to ask the office: an image at the end of it comes late.
 """
+import contextlib
 import http.server
 import os
 import pathlib
@@ -35,8 +36,8 @@ VIEWS = {
     "import": ("#import", "/web/texts/en.json"),
     "fault": ("#fault", "/web/texts/en.json"),
 }
-# so many seconds Firefox has to ask for that path, and then to draw what came
-MOST, WAIT = 90, 5.0
+# the seconds that Firefox has to ask for that path, and then, from one attempt to the next, to draw what came
+MOST, WAITS = 90, (5.0, 20.0, 60.0)
 # a picture without the view is of some 20,000 bytes
 LEAST = 32_000
 
@@ -47,6 +48,7 @@ class Between(http.server.BaseHTTPRequestHandler):
     proxy: Proxy
     seen: list[str] = []
     wanted = ""
+    wait = WAITS[0]
     lock = threading.Lock()
 
     def do_GET(self) -> None:
@@ -55,7 +57,7 @@ class Between(http.server.BaseHTTPRequestHandler):
             until = time.time() + MOST
             while Between.wanted not in Between.seen and time.time() < until:
                 time.sleep(0.2)
-            time.sleep(WAIT)
+            time.sleep(Between.wait)
             return self.give(404, {}, b"")
         with Between.lock:
             status, body = self.proxy.ask("GET", self.path, fields={"Accept-Encoding": "identity"})
@@ -85,7 +87,9 @@ def size_of(picture: pathlib.Path) -> tuple[int, int]:
 
 
 def shot(address: str, picture: pathlib.Path, width: int, height: int) -> None:
-    with tempfile.TemporaryDirectory() as home:
+    """Lets Firefox make a picture; there is none if it does not come to that in time."""
+    picture.unlink(missing_ok=True)
+    with tempfile.TemporaryDirectory() as home, contextlib.suppress(subprocess.TimeoutExpired):
         profile = pathlib.Path(home) / "profile"
         profile.mkdir()
         subprocess.run(
@@ -104,7 +108,7 @@ def shot(address: str, picture: pathlib.Path, width: int, height: int) -> None:
             stdin=subprocess.DEVNULL,
             stdout=subprocess.DEVNULL,
             stderr=subprocess.DEVNULL,
-            timeout=180,
+            timeout=300,
             check=False,
         )
 
@@ -122,7 +126,11 @@ def tell(proxy: Proxy, folder: pathlib.Path) -> None:
             Between.seen.clear()
             Between.wanted = path
             picture = (shots.PLACE or folder) / f"firefox-{name}.png"
-            shot(f"http://localhost:{server.server_port}/web/{address}", picture, 1280, 900)
+            for wait in WAITS:
+                Between.wait = wait
+                shot(f"http://localhost:{server.server_port}/web/{address}", picture, 1280, 900)
+                if picture.exists() and picture.stat().st_size > LEAST:
+                    break
             judge(f"Firefox: {name}: it asks for what it shows", path in Between.seen, str(Between.seen))
             same(f"Firefox: {name}: a picture of it", picture.exists() and size_of(picture), (1280, 900))
             if picture.exists():

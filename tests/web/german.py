@@ -80,13 +80,10 @@ def acts(it: Browser, proxy: Proxy) -> None:
         GERMAN["said.refusal"].format(number=4, name="Exists"),
         GERMAN["refusals.4.meaning"],
         GERMAN["refusals.4.do"],
-        '[{"refused":4}]',
     ]
-    judge(
-        "German: a refusal is explained in German, beside the office's own answer",
-        all(word in seen for word in wanted),
-        seen,
-    )
+    judge("German: a refusal is explained in German", all(word in seen for word in wanted), seen)
+    whole, own = it.text("#hold-place-outcome"), '[{"refused":4}]'
+    judge("German: the office's own answer is behind a summary", own in whole and own not in seen, whole)
     it.write(hold_lift_code="Q 1")
     it.press("#hold-lift button")
     same("German: a wrong field is explained in German", it.text("#hold-lift-code-wrong"), GERMAN["fields.codeWrong"])

@@ -206,7 +206,7 @@ def bounds(view: View) -> None:
         it.seen("#overdue-ahead"),
         TEXTS["due"]["ahead"].format(today=after(0)),
     )
-    lines = lambda: (view.story.folder / "access.log").read_text().count("\n")
+    lines = lambda: len(view.story.logged())
     before = lines()
     for name, value, word in (
         ("day", "2023-02-29", TEXTS["fields"]["dayWrong"]),

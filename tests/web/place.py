@@ -146,7 +146,7 @@ class Proxy:
     def start(self):
         subprocess.run(["nginx", "-q", "-t", "-c", self.conf], check=True)
         self.process = subprocess.Popen(["nginx", "-c", self.conf], stdin=subprocess.DEVNULL)
-        for _ in range(100):
+        for _ in range(600):
             try:
                 with socket.create_connection(("127.0.0.1", self.port), timeout=1):
                     return

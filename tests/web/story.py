@@ -1,13 +1,13 @@
 """The city archive through the page: what its tables show is what the paths tell, and what is done by it is what stands beside the story."""
 import datetime
 import hashlib
+import itertools
 import json
 import pathlib
 import re
 import sqlite3
 import time
 
-import looks
 from interface import city
 from judging import judge, same
 from place import TOP, full
@@ -19,6 +19,8 @@ for _part, _words in TEXTS["help"].items():
     for _name, _do in _words.items():
         TEXTS[_part][_name]["do"] = _do
 YES = {True: "yes", False: "no"}
+# the numbers of requests that mark where nginx's log is
+MARKS = itertools.count(1)
 
 
 def certificate(run):
@@ -37,15 +39,21 @@ class Story:
     def told(self, path):
         return json.loads(self.office.ask("GET", path)[2])
 
+    def logged(self):
+        """The lines of nginx's log, with each request that was answered before: nginx logs one after another."""
+        mark = f"/web/office.js?mark={next(MARKS)} "
+        self.proxy.ask("GET", mark.strip())
+        log = self.folder / "access.log"
+        self.browser.wait(lambda: mark in log.read_text(), "nginx does not log")
+        return [line for line in log.read_text().splitlines() if "/web/office.js?mark=" not in line]
+
     def asked_for(self):
         """How many requests came to nginx but for what is read anew at each showing: lists of what is due, the catalogue."""
-        time.sleep(0.1)
-        return sum(not re.search('"GET /(due|catalogue)/', line) for line in (self.folder / "access.log").read_text().splitlines())
+        return sum(not re.search('"GET /(due|catalogue)/', line) for line in self.logged())
 
     def posted(self):
         """How many POSTs came to nginx with the password. (A browser learns only from a first answer, 401, that a path wants it.)"""
-        time.sleep(0.1)
-        return len(re.findall(r'"POST [^"]*" (?!401)', (self.folder / "access.log").read_text()))
+        return sum(bool(re.search(r'"POST [^"]*" (?!401)', line)) for line in self.logged())
 
     # ---- what is due
 
@@ -251,7 +259,9 @@ class Story:
         it.one("#certificate-file").send_keys(str(file))
         it.press("#certificate-check button")
         it.wait(lambda: it.one("#certificate-told").is_displayed() and name in it.text("#certificate-heading"), "the file is not shown")
-        time.sleep(0.3)
+        # each of these names run 1, so it is compared with that certificate of the office in the end
+        ends = [TEXTS["certificate"][end].format(number=1) for end in ("sameAsOffice", "otherThanOffice", "noneAtOffice", "notCompared")]
+        it.wait(lambda: any(end in it.seen("#certificate-verdict") for end in ends), "the file is not compared")
         return it.seen("#certificate-verdict")
 
     def files(self):
@@ -382,21 +392,22 @@ class Story:
         same("the list tells what was done", self.due_table(), self.due_cells(rows))
         print(f"of {sum(not row['confirmed'] for row in before)} that were not confirmed {len(rows)} are not now, after the answer was lost")
 
-    def tell(self, at):
-        """The whole story; what `at` has by a name is done where the story has come so far."""
+    def begin(self):
+        """Posts the acts up to the first run, as a program, and opens the list of what is due."""
         for name in ("1-schedule", "2-holdings", "3-lawsuit"):
             status, _ = self.proxy.ask("POST", "/acts", city(name), {"Origin": self.proxy.address})
             judge(f"a program posts {name} through nginx", status in (200, 409), str(status))
         self.browser.open(f"{self.proxy.page}#due")
         self.due()
-        at["due"]()
+
+    def tell(self):
+        """The whole story."""
+        self.begin()
         self.wrong_input()
-        looks.keyboard(self.browser, self.proxy)
         self.confirm()
         self.run(1, "2022-05-02")
         self.records()
         self.files()
-        at["run"]()
         self.holds()
         self.run(2, "2023-11-20")
         self.damaged()

@@ -1,9 +1,7 @@
 """The package on a Debian that systemd runs, booted by systemd-nspawn: the units at work, from enabling to purging."""
 import pathlib
-import shutil
-import subprocess
-import time
 
+from booting import Boot
 from trying.apart import judge_apart
 from trying.judging import judge
 from trying.kept import judge_kept, put
@@ -21,40 +19,17 @@ class Booted:
     """A machine that runs. Used by `with`, it is shut down at the end."""
 
     def __init__(self, machine: Machine) -> None:
-        words = ["systemd-nspawn", "--quiet", "--register=no", "--keep-unit", "--private-network", "--boot",
-                 "--console=pipe", f"--directory={machine.top}"]
-        self.nspawn = subprocess.Popen(words, stdin=subprocess.DEVNULL, stdout=subprocess.DEVNULL,
-                                       stderr=subprocess.DEVNULL, start_new_session=True)
-        self.init = 0
+        self.boot = Boot(machine.top, "--private-network")
 
     def __enter__(self) -> "Booted":
+        self.boot.start()
         return self
 
     def __exit__(self, *_: object) -> None:
-        self.nspawn.terminate()
-        try:
-            self.nspawn.wait(timeout=120)
-        except subprocess.TimeoutExpired:
-            self.nspawn.kill()
-            self.nspawn.wait()
-
-    def is_up(self) -> bool:
-        """Whether its systemd has started all units, after two minutes at most."""
-        for _ in range(240):
-            time.sleep(0.5)
-            children = pathlib.Path(f"/proc/{self.nspawn.pid}/task/{self.nspawn.pid}/children")
-            if self.nspawn.poll() is not None:
-                return False
-            self.init = int((children.read_text().split() or ["0"])[0])
-            if self.init and self.run("systemctl is-system-running").out in ("running\n", "degraded\n"):
-                return True
-        return False
+        self.boot.stop()
 
     def run(self, command: str) -> Done:
-        root = f"/proc/{self.init}/root"
-        env = ["env", "-i", "PATH=/usr/sbin:/usr/bin:/sbin:/bin", "HOME=/root", "LC_ALL=C"]
-        return run(["nsenter", "-t", self.init, "-m", "-u", "-i", "-n", "-p", f"-r{root}", f"-w{root}", *env,
-                    "/bin/bash", "-c", command])
+        return run(list(self.boot.enter(command)))
 
 
 def judge_units(booted: Booted) -> None:
@@ -99,18 +74,12 @@ def judge_removal(booted: Booted) -> None:
 
 
 def judge_booted(machine: Machine, first: pathlib.Path, second: pathlib.Path) -> None:
-    """All of it, where this machine can boot another."""
-    if shutil.which("systemd-nspawn") is None:
-        print("not run here, without systemd-nspawn (apt-get install systemd-container): units under systemd")
-        return
+    """All of it."""
     machine.put(first, "/root/office.deb")
     machine.put(second, "/root/second.deb")
     machine.put(ASK_FILE, "/root/ask.py")
     put(machine)
     with Booted(machine) as booted:
-        if not booted.is_up():
-            print("not run here, since systemd-nspawn cannot boot on this machine: units under systemd")
-            return
         judge_units(booted)
         judge_upgrade(booted, second)
         judge_removal(booted)

@@ -1,12 +1,12 @@
-"""A small Debian in a folder, made by mmdebstrap, and commands that run there."""
+"""A small Debian in a folder, and commands that run there."""
 import os
 import pathlib
 import shutil
 import subprocess
 from typing import NamedTuple
 
-# what an administrator's machine has, and the office and its services need: see the package's fields
-PACKAGES = "adduser,age,openssh-client,openssl,python3,python3-aiohttp,python3-h11,sqlite3,systemd"
+import small_debian
+
 # processes, network and mounts of its own
 SPACE = ["unshare", "--mount", "--net", "--pid", "--fork", "--kill-child", "--mount-proc"]
 # a busy machine packs a program in minutes
@@ -28,21 +28,11 @@ def run(words: list[object], **env: str) -> Done:
 
 
 class Machine:
-    """A Debian of its own, below a folder. ROOT names a tar that mmdebstrap made before, in place of a new one."""
+    """A Debian of its own, below a folder."""
 
     def __init__(self, top: pathlib.Path) -> None:
         self.top = top
-        made = os.environ.get("ROOT")
-        if made:
-            self.top.mkdir()
-            words: list[object] = ["tar", "-xf", made, "-C", self.top]
-        else:
-            words = ["mmdebstrap", "--variant=minbase", f"--include={PACKAGES}", "bookworm", self.top,
-                     "http://deb.debian.org/debian"]
-        done = subprocess.run([str(it) for it in words], stdin=subprocess.DEVNULL, stdout=subprocess.PIPE,
-                              stderr=subprocess.STDOUT, text=True)
-        if done.returncode:
-            raise SystemExit(f"no Debian was made:\n{done.stdout}")
+        small_debian.unpack("package", top)
 
     def run(self, command: str) -> Done:
         """Runs a command of bash there as root, as if the machine had nothing but loopback."""

@@ -195,7 +195,6 @@ def judge_made(file: pathlib.Path, place: pathlib.Path) -> None:
     subprocess.run(["dpkg-deb", "-x", file, top], check=True)
     judge_list()
     judge_version(place)
-    judge_lintian(file)
     judge_manual(top)
     judge_completion(top)
     judge_tools(top)

@@ -56,7 +56,11 @@ def judge_stopped(booted: "Booted") -> None:
 
 def judge_list(booted: "Booted") -> None:
     """A stop and a restart while clients ask."""
-    done = booted.run(f"{ASK} 8081 list 300 >/tmp/answer & sleep 1; systemctl stop office@city; wait; "
+    # it stops once the first of these acts is written
+    written = f"stat -c %y {CITY}/office.db-wal 2>/dev/null"
+    begun = f"until [ \"$({written})\" != \"$before\" ] || [ -s /tmp/answer ]; do sleep 0.02; done"
+    done = booted.run(f"rm -f /tmp/answer; before=$({written}); {ASK} 8081 list 300 >/tmp/answer & {begun}; "
+                      "systemctl stop office@city; wait; "
                       f"cut -c 1-3 /tmp/answer; grep -o number /tmp/answer | wc -l; sqlite3 {CITY}/office.db "
                       "\"SELECT count(*) FROM records WHERE ref LIKE 'list-%'\"; systemctl start office@city")
     judge("systemd: a stop within a list: the client has its whole answer, and all acts are there",
@@ -131,10 +135,12 @@ def judge_hung(booted: "Booted") -> None:
     serve = "$(systemctl show -P MainPID office@city)"
     program = f"$(cut -d ' ' -f 1 /proc/{serve}/task/{serve}/children)"
     restarts = "systemctl show -P NRestarts office@city"
-    done = booted.run(f"sleep 10; {restarts}; p={program}; kill -STOP $p; sleep 9; test -e /proc/$p || echo ended; "
+    gone = "for n in $(seq 600); do test -e /proc/$p || break; sleep 0.2; done; test -e /proc/$p || echo ended; "
+    done = booted.run(f"sleep 10; {restarts}; p={program}; kill -STOP $p; {gone}"
                       f"{ASK} 8081 /due/0001-01-01 | cut -c 1-3; {restarts}")
     judge("systemd: a program that hangs is started again, by the same service", done.out == "0\nended\n200\n0\n", done)
-    done = booted.run(f"kill -STOP {serve}; sleep 8; {ASK} 8081 /due/0001-01-01 | cut -c 1-3; {restarts}; "
+    again = f"for n in $(seq 600); do [ $({restarts}) = 0 ] || break; sleep 0.2; done; "
+    done = booted.run(f"kill -STOP {serve}; {again}{ASK} 8081 /due/0001-01-01 | cut -c 1-3; {restarts}; "
                       "journalctl -o cat -u office@city | grep -ci watchdog")
     judge("systemd: an office-serve that hangs is started again by the watchdog, and clients wait",
           done.out.startswith("200\n1\n") and int(done.out.split()[2]) > 0, done)

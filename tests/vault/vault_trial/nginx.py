@@ -13,7 +13,8 @@ from vault_trial.world import World, free_port
 
 from office_vault.manifest import Named
 
-MEGABYTES = 300
+# TRIAL_MEGABYTES=300 measures more than a machine's noise
+MEGABYTES = int(os.environ.get("TRIAL_MEGABYTES", "30"))
 
 
 def coming_in(it: Proxy, world: World, file: pathlib.Path, name: str) -> None:
@@ -83,9 +84,9 @@ def going_out(it: Proxy, world: World, name: str, data: bytes) -> int:
 
 
 def times(it: Proxy, world: World, folder: pathlib.Path) -> None:
-    """A file of 300 MB in and out, beside a plain nginx that takes and serves the same bytes with the same TLS."""
+    """A file of many megabytes in and out, beside a plain nginx that takes and serves the same bytes with the same TLS."""
     file = folder / "large"
-    file.write_bytes(os.urandom(3_000_000) * (MEGABYTES // 3))
+    file.write_bytes(os.urandom(1_000_000) * MEGABYTES)
     name = digest(file.read_bytes())
     number = world.office.add("D", Named(name, file.stat().st_size, "l").text().encode(), {name})
     plain = f"https://localhost:{it.port + 2}/file"

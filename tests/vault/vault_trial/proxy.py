@@ -66,7 +66,7 @@ class Proxy:
     def __enter__(self) -> "Proxy":
         words = ["nginx", "-c", self.folder / "nginx.conf", "-e", self.folder / "log/start.log"]
         self.process = subprocess.Popen(words)
-        for _ in range(100):
+        for _ in range(600):
             if (self.folder / "pid").exists() or self.process.poll() is not None:
                 break
             time.sleep(0.1)

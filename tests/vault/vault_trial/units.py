@@ -2,16 +2,15 @@
 import base64
 import hashlib
 import json
-import os
 import pathlib
 import shutil
 import subprocess
-import time
 
+import small_debian
+from booting import Boot
 from vault_trial.judging import judge, same
 from vault_trial.places import OFFICE, SCRIPTS, VAULT
 
-INCLUDED = "adduser,python3,sqlite3,systemd,curl"
 CITY = "/var/lib/office-vaults/city"
 SECOND = "/var/lib/office-vault-backups/city"
 SOCKET = "/run/office-vault/city/socket"
@@ -19,14 +18,11 @@ DATA = b"a large file " * 100_000
 
 
 class Machine:
-    """A Debian of its own, below a folder. ROOT names a tar that mmdebstrap made before, in place of a new one."""
+    """A Debian of its own, below a folder."""
 
     def __init__(self, top: pathlib.Path) -> None:
-        self.top = top
-        top.mkdir(parents=True)
-        words = ["tar", "-xf", os.environ["ROOT"], "-C", top] if "ROOT" in os.environ else [
-            "mmdebstrap", "--variant=minbase", f"--include={INCLUDED}", "bookworm", top, "http://deb.debian.org/debian"]
-        subprocess.run([str(it) for it in words], check=True, capture_output=True)
+        self.top, self.boot = top, Boot(top, "--private-network")
+        small_debian.unpack("vault", top)
         self.install()
 
     def install(self) -> None:
@@ -47,33 +43,16 @@ class Machine:
         (self.top / "root/file").write_bytes(DATA)
 
     def __enter__(self) -> "Machine":
-        words = ["systemd-nspawn", "--quiet", "--register=no", "--keep-unit", "--private-network", "--boot",
-                 "--console=pipe", f"--directory={self.top}"]
-        self.nspawn = subprocess.Popen(words, stdin=subprocess.DEVNULL, stdout=subprocess.DEVNULL,
-                                       stderr=subprocess.DEVNULL, start_new_session=True)
-        for _ in range(360):
-            time.sleep(0.5)
-            children = pathlib.Path(f"/proc/{self.nspawn.pid}/task/{self.nspawn.pid}/children").read_text().split()
-            self.init = children[0] if children else ""
-            if self.init and self.run("systemctl is-system-running")[1] in ("running", "degraded"):
-                return self
-        raise SystemExit("the machine does not start")
+        self.boot.start()
+        return self
 
     def __exit__(self, *_: object) -> None:
-        self.nspawn.terminate()
-        try:
-            self.nspawn.wait(timeout=60)
-        except subprocess.TimeoutExpired:
-            self.nspawn.kill()
-            self.nspawn.wait()
+        self.boot.stop()
 
     def run(self, command: str) -> tuple[int, str]:
         """Runs a command there; returns its status and what it printed."""
-        root = f"/proc/{self.init}/root"
-        words = ["nsenter", "-t", self.init, "-m", "-u", "-i", "-n", "-p", f"-r{root}", f"-w{root}", "env", "-i",
-                 "PATH=/usr/local/bin:/usr/sbin:/usr/bin:/sbin:/bin", "HOME=/root", "LC_ALL=C", "bash", "-c", command]
-        done = subprocess.run(words, stdin=subprocess.DEVNULL, stdout=subprocess.PIPE, stderr=subprocess.STDOUT,
-                              timeout=600)
+        done = subprocess.run(self.boot.enter(command), stdin=subprocess.DEVNULL, stdout=subprocess.PIPE,
+                              stderr=subprocess.STDOUT, timeout=600, check=False)
         return done.returncode, done.stdout.decode(errors="replace").strip()
 
 
