@@ -60,13 +60,14 @@ class Trial(NamedTuple):
 
 
 class Outcome(NamedTuple):
-    """The end of a trial: `passed`, `failed` or `skipped`, its last line or the reason, and its seconds."""
+    """The end of a trial: `passed`, `failed` or `skipped`, its last line or the reason, its seconds, its skipped parts."""
 
     trial: Trial
     verdict: str
     last: str
     clock: float = 0
     processor: float = 0
+    left_out: tuple[str, ...] = ()
 
     def __str__(self) -> str:
         verdict = "FAILED" if self.verdict == "failed" else self.verdict
@@ -192,7 +193,10 @@ def judged(trial: Trial, log: pathlib.Path, status: int, is_over_limit: bool, is
         holds = number(share[1]) == number(share[2]) > 0
     else:
         holds = trial.limit == DAY
-    return Outcome(trial, "passed" if status == 0 and holds else "failed", last if status == 0 else f"status {status}: {last}")
+    left_out = tuple(line.strip().removeprefix("skipped: ") for line in lines if line.strip().startswith("skipped: "))
+    if status:
+        return Outcome(trial, "failed", f"status {status}: {last}", left_out=left_out)
+    return Outcome(trial, "passed" if holds else "failed", last, left_out=left_out)
 
 
 def worst_lines(log: pathlib.Path) -> list[str]:

@@ -7,7 +7,9 @@ import socket
 import subprocess
 import time
 
-from service_place import OFFICE, SERVICE
+from service_place import OFFICE, SERVICE, comes
+from shared.offices import start
+from shared.ports import free_port
 
 SECONDS = 300
 
@@ -55,15 +57,13 @@ def status_of(answer: bytes) -> int:
 
 
 def has_ended(pid: int) -> bool:
-    """Returns whether a process has ended, within some seconds; whoever started it may not have seen it yet."""
-    for _ in range(100):
+    """Waits until a process has ended; whoever started it may not have seen it yet. Returns whether it has."""
+    def is_gone() -> bool:
         try:
-            if pathlib.Path(f"/proc/{pid}/stat").read_text().rpartition(")")[2].split()[0] == "Z":
-                return True
+            return pathlib.Path(f"/proc/{pid}/stat").read_text().rpartition(")")[2].split()[0] == "Z"
         except OSError:
             return True
-        time.sleep(0.1)
-    return False
+    return comes(is_gone)
 
 
 class Served:
@@ -73,17 +73,19 @@ class Served:
     """the program itself is in the place of office-serve"""
 
     def __init__(self, file: pathlib.Path, *words: str, bare: bool = False, waits: bool = True) -> None:
-        with socket.create_server(("127.0.0.1", 0)) as held:
-            self.port = held.getsockname()[1]
         self.bare = bare or Served.is_bare
         count = words[words.index("--count") + 1] if "--count" in words else "1000000"
-        command = [OFFICE, "serve", file, self.port, count] if self.bare else [
-            SERVICE / "office-serve", *words, file, self.port]
-        self.process = subprocess.Popen([str(it) for it in command], stdin=subprocess.DEVNULL, stdout=subprocess.PIPE,
-                                        stderr=None if waits else subprocess.PIPE, env={**os.environ, "OFFICE": OFFICE})
+
+        def command(port: int) -> list[object]:
+            return [OFFICE, "serve", file, port, count] if self.bare else [SERVICE / "office-serve", *words, file, port]
+
+        env = {**os.environ, "OFFICE": OFFICE}
         if waits:
-            line = self.process.stdout.readline()
-            assert line == f"listening 127.0.0.1:{self.port}\n".encode(), line
+            self.process, self.port, _ = start(command, env=env)
+        else:
+            self.port = free_port()
+            self.process = subprocess.Popen([str(each) for each in command(self.port)], stdin=subprocess.DEVNULL,
+                                            stdout=subprocess.PIPE, stderr=subprocess.PIPE, env=env)
 
     def __enter__(self) -> "Served":
         return self

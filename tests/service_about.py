@@ -5,7 +5,8 @@ import os
 import pathlib
 import sys
 
-from service_place import FIRST, LAST, NOBODY, OFFICE, SERVICE, apply, judge, made, run, script
+from service_place import FIRST, LAST, NOBODY, OFFICE, SERVICE, apply, made, run, script
+from shared.judging import judge
 
 sys.path.insert(0, str(SERVICE / "gate"))
 from office_gate.chain import START, linked  # noqa: E402

@@ -4,12 +4,13 @@ import gzip
 import json
 import os
 import pathlib
-import shutil
+import signal
 import subprocess
 import time
 
-from service_place import (FIRST, LAST, NOBODY, OFFICE, RECORDS, SERVICE, Served, apply, judge, made, path_with, run,
+from service_place import (FIRST, LAST, NOBODY, OFFICE, RECORDS, SERVICE, Served, apply, comes, made, path_with, run,
                            run_acts, script)
+from shared.judging import judge
 
 # the columns of the details, in their order
 DETAILS = ("originated", "added", "class", "schedule", "length", "due", "held")
@@ -104,7 +105,9 @@ def refused(folder: pathlib.Path, file: pathlib.Path, copy: pathlib.Path, place:
     older.write_bytes(copy.read_bytes())
     run("sqlite3", older, "UPDATE office SET version = 1")
     stands, served = sorted(place.rglob("*")), Served(file)
-    slow = path_with(folder / "slow", "sqlite3", f"sleep 1; exec {shutil.which('sqlite3')} \"$@\"")
+    asking = folder / "slow/asking"
+    slow = path_with(folder / "slow", "sqlite3", f": >{asking}\nsleep 600")
+    asking.parent.chmod(0o777)
     full = path_with(folder / "full", "gzip", "cat >/dev/null; echo 'no space left' >&2; exit 1")
     try:
         for name, which, how in (("a damaged copy", damaged, {}), ("a copy of version 1", older, {}),
@@ -114,13 +117,15 @@ def refused(folder: pathlib.Path, file: pathlib.Path, copy: pathlib.Path, place:
     finally:
         served.end()
     killed = subprocess.Popen([SERVICE / "office-catalogue", copy, place], user=NOBODY, group=NOBODY, extra_groups=[],
-                              env={**os.environ, "PATH": slow})
-    time.sleep(2.5)
+                              env={**os.environ, "PATH": slow}, start_new_session=True)
+    began = comes(asking.exists)
     killed.kill()
     killed.wait()
-    judge("one that is killed leaves the one that is there", (place / "now").resolve() in stands
+    judge("one that is killed leaves the one that is there", began and (place / "now").resolve() in stands
           and len(list((place / "now").iterdir())) == 11)
-    for it in place.glob(".office-catalogue.*"):
-        judge("and a folder, which a later one removes", it.is_dir())
-        os.utime(it, (0, 0))
-    time.sleep(2)
+    # what it started holds the lock of its folder until it has ended
+    os.killpg(killed.pid, signal.SIGKILL)
+    left = list(place.glob(".office-catalogue.*"))
+    judge("and a folder, which a later one removes", len(left) == 1 and left[0].is_dir(), left)
+    for each in left:
+        os.utime(each, (0, 0))

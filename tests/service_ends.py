@@ -7,8 +7,9 @@ import shutil
 import subprocess
 import time
 
-from service_place import (NOBODY, OFFICE, SERVICE, Served, counted, judge, made, mode_of, path_with, run, script,
-                           text_of)
+from service_place import (NOBODY, OFFICE, SECONDS, SERVICE, Served, comes, counted, made, mode_of, next_second,
+                           path_with, run, script, text_of)
+from shared.judging import judge
 
 
 def ends(folder: pathlib.Path) -> None:
@@ -26,11 +27,13 @@ def leftovers(folder: pathlib.Path, file: pathlib.Path) -> None:
     copies = folder / "left"
     copies.mkdir()
     os.chown(copies, NOBODY, NOBODY)
-    slow = path_with(folder / "slow-cp", "cp", "sleep 6\nexec /bin/cp \"$@\"")
+    goes, copying = folder / "goes", folder / "slow-cp/copying"
+    slow = path_with(folder / "slow-cp", "cp", f": >{copying}\nwhile ! [ -e {goes} ]; do sleep 0.1; done\nexec /bin/cp \"$@\"")
+    copying.parent.chmod(0o777)
     words = [SERVICE / "office-backup", file, copies / "slow.db"]
     at_work = subprocess.Popen(words, user=NOBODY, group=NOBODY, extra_groups=[], stderr=subprocess.DEVNULL,
-                               env={**os.environ, "PATH": slow, "OFFICE": OFFICE})
-    time.sleep(3)
+                               env={**os.environ, "PATH": slow, "OFFICE": OFFICE, "OFFICE_PAUSE": str(SECONDS)})
+    comes(copying.exists)
     work = list(copies.glob(".office-backup.*"))
     for name, there in (("backup", copies), ("overdue", copies), ("restore", file.parent), ("compact", file.parent),
                         ("catalogue", copies)):
@@ -47,11 +50,13 @@ def leftovers(folder: pathlib.Path, file: pathlib.Path) -> None:
     script("office-backup", file, copies / "next.db", user=NOBODY)
     judge("what a backup left that was cut off is gone, and not what is no script's",
           not (copies / ".office-backup.abcdef").exists() and other.is_dir())
-    judge("one that is at work beside it is left alone", len(work) == 1 and at_work.wait(60) == 0
+    is_there = [each.exists() for each in work]
+    goes.touch()
+    judge("one that is at work beside it is left alone", is_there == [True] and at_work.wait(SECONDS) == 0
           and counted(copies / "slow.db", "records") == counted(file, "records"), work)
     script("office-overdue", file, copies, "2025-02-02", 30, user=NOBODY)
     script("office-restore", file, copies / "next.db", user=NOBODY)
-    time.sleep(1.1)
+    next_second()
     script("office-compact", file, user=NOBODY)
     script("office-catalogue", copies / "next.db", copies, user=NOBODY)
     judge("so is what each other script left", not [*copies.glob(".office-*"), *file.parent.glob(".office-*")],
@@ -72,8 +77,8 @@ def paused(folder: pathlib.Path, file: pathlib.Path) -> None:
         began = time.monotonic()
         status, _, error = script("office-backup", file, folder / "late.db", PATH=slow, OFFICE_PAUSE="3")
         took = time.monotonic() - began
-        judge("one deadline is for all of the pause", status == 1 and "within 3 seconds" in error and took < 30
-              and served.is_paused(False, 1), f"{took:.0f} s; {error.strip()}")
+        judge("one deadline is for all of the pause", status == 1 and "within 3 seconds" in error and took < 300
+              and served.is_paused(False), f"{took:.0f} s; {error.strip()}")
         full = path_with(folder / "no-room", "stat",
                          "case $* in *%S*) echo '0 * 4096' ;; *) exec /usr/bin/stat \"$@\" ;; esac")
         status, _, error = script("office-backup", file, folder / "late.db", PATH=full)

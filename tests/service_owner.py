@@ -9,7 +9,8 @@ import os
 import pathlib
 import shutil
 
-from service_place import NOBODY, OFFICE, SERVICE, judge, made, run, script
+from service_place import NOBODY, OFFICE, SERVICE, made, run, script
+from shared.judging import judge
 
 VICTIM = b"root's own\n"
 AS_OWNER = f"setpriv --reuid={NOBODY} --regid={NOBODY} --clear-groups"

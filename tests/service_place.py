@@ -1,34 +1,30 @@
 """Real offices and the scripts of service: what the parts of tests/service_scripts share."""
 import base64
 import hashlib
-import http.client
 import json
 import os
 import pathlib
 import re
-import socket
 import subprocess
 import time
+from collections.abc import Callable
 
-HERE = pathlib.Path(__file__).resolve().parent
-TOP = HERE.parent
-OFFICE = os.environ.get("OFFICE", str(TOP / "office"))
+from shared.commands import OFFICE, TOP
+from shared.offices import Office
+
+HERE = TOP / "tests"
 SERVICE = TOP / "service"
 NOBODY = 65534
 FIRST, LAST = "2024-01-02", "2025-01-02"
 RECORDS = 20
-JUDGED: list[bool] = []
-
-
-def judge(name: str, holds: bool, seen: object = "") -> None:
-    JUDGED.append(bool(holds))
-    print(f"{'passed' if holds else 'FAILED'}: {name}" + (f": {seen}" if seen != "" else ""), flush=True)
+SECONDS = 600
+"""a command or an event that takes longer does not come, however busy the machine is"""
 
 
 def run(*words: object, user: int | None = None, umask: int = 0o022, **env: str) -> tuple[int, str, str]:
     """The status of a command, and what it wrote to standard output and standard error."""
     done = subprocess.run([str(it) for it in words], stdin=subprocess.DEVNULL, capture_output=True, user=user,
-                          group=user, extra_groups=None if user is None else [], umask=umask, timeout=300,
+                          group=user, extra_groups=None if user is None else [], umask=umask, timeout=SECONDS,
                           env={**os.environ, "OFFICE": OFFICE, **env})
     return done.returncode, done.stdout.decode(), done.stderr.decode()
 
@@ -79,39 +75,36 @@ def made(folder: pathlib.Path, name: str) -> pathlib.Path:
     return own / "office.db"
 
 
-class Served:
+class Served(Office):
     """The office in a file, served as its owner."""
 
     def __init__(self, file: pathlib.Path):
-        with socket.create_server(("127.0.0.1", 0)) as held:
-            self.port = held.getsockname()[1]
-        self.server = subprocess.Popen([OFFICE, "serve", str(file), str(self.port), "1000000"], user=NOBODY,
-                                       group=NOBODY, extra_groups=[], stdin=subprocess.DEVNULL, stdout=subprocess.PIPE)
-        self.server.stdout.readline()
+        super().__init__(file, user=NOBODY)
 
-    def ask(self, method: str, path: str, body: bytes = b"") -> int:
-        conn = http.client.HTTPConnection("127.0.0.1", self.port, timeout=120)
+    def status(self, method: str, path: str, body: bytes = b"") -> int:
+        """Returns the status of an answer, 0 without one."""
         try:
-            conn.request(method, path, body)
-            return conn.getresponse().status
+            return self.ask(method, path, body).status
         except OSError:
             return 0
-        finally:
-            conn.close()
 
-    def state(self) -> str:
-        return pathlib.Path(f"/proc/{self.server.pid}/stat").read_text().rpartition(")")[2].split()[0]
+    def is_paused(self, wanted: bool) -> bool:
+        """Waits until it is paused, or until it goes on, and returns whether that came."""
+        return comes(lambda: (self.state() == "T") == wanted)
 
-    def is_paused(self, wanted: bool, seconds: float) -> bool:
-        """Whether it is paused, or goes on, within so many seconds."""
-        until = time.monotonic() + seconds
-        while (self.state() == "T") != wanted and time.monotonic() < until:
-            time.sleep(0.01)
-        return (self.state() == "T") == wanted
 
-    def end(self) -> None:
-        self.server.kill()
-        self.server.wait()
+def comes(event: Callable[[], object]) -> bool:
+    """Waits for an event, and returns whether it came."""
+    until = time.monotonic() + SECONDS
+    while not event() and time.monotonic() < until:
+        time.sleep(0.01)
+    return bool(event())
+
+
+def next_second() -> None:
+    """Waits until the clock shows another second: a name that has the second in it is not given twice."""
+    second = int(time.time())
+    comes(lambda: int(time.time()) != second)
 
 
 def mode_of(file: pathlib.Path) -> tuple[str, int]:

@@ -5,21 +5,9 @@ import os
 import pathlib
 import shutil
 
-from service_place import (
-    LAST,
-    NOBODY,
-    OFFICE,
-    RECORDS,
-    Served,
-    apply,
-    judge,
-    made,
-    mode_of,
-    path_with,
-    run,
-    run_acts,
-    script,
-)
+from service_place import (LAST, NOBODY, OFFICE, RECORDS, Served, apply, made, mode_of, path_with, run, run_acts,
+                           script)
+from shared.judging import judge, same
 
 
 def overdue(folder: pathlib.Path) -> None:
@@ -52,22 +40,25 @@ def overdue(folder: pathlib.Path) -> None:
         judge("where nothing is overdue it has the header alone", header == wanted[1].splitlines(True)[0], header)
         stands = register.read_bytes()
         full = path_with(folder / "full", "mv", "echo 'No space left on device' >&2\nexit 1")
-        for name, words, how in (
-            ("who is neither root nor the owner", (file, registers, day["second"], 30), {"user": NOBODY - 1}),
-            ("a FILE that is not there", (file.with_name("none.db"), registers, day["second"], 30), {}),
-            ("a day that is none", (file, registers, "2025-02-30", 30), {}),
-            ("a day that is a path", (file, registers, "../2025-02-02", 30), {}),
-            ("too many days", (file, registers, day["second"], 3651), {}),
-            ("a folder that is not there", (file, folder / "none", day["second"], 30), {}),
-            ("a register that is not written", (file, registers, day["second"], 30), {"PATH": full}),
+        none = file.with_name("none.db")
+        for name, words, how, wanted_error in (
+            ("who is neither root nor the owner", (file, registers, day["second"], 30), {"user": NOBODY - 1},
+             f"office-overdue: only root and the owner of {file} may run this\n"),
+            ("a FILE that is not there", (none, registers, day["second"], 30), {}, f"office-overdue: there is no {none}\n"),
+            ("a day that is none", (file, registers, "2025-02-30", 30), {},
+             "office: refused 2\noffice-overdue: there is no register of 2025-02-30 and 30 days\n"),
+            ("a day that is a path", (file, registers, "../2025-02-02", 30), {}, "office-overdue: '../2025-02-02' is no day\n"),
+            ("too many days", (file, registers, day["second"], 3651), {},
+             f"office: refused 2\noffice-overdue: there is no register of {day['second']} and 3651 days\n"),
+            ("a folder that is not there", (file, folder / "none", day["second"], 30), {},
+             f"office-overdue: there is no folder {folder / 'none'}\n"),
+            ("a register that is not written", (file, registers, day["second"], 30), {"PATH": full}, "No space left on device\n"),
         ):
-            status, out, error = script("office-overdue", *words, **how)
-            judge(
-                f"{name}: no register, and the old one stays",
-                (status, out) == (1, "") and register.read_bytes() == stands and len(list(registers.glob("*"))) == 4,
-                error.strip(),
-            )
-        judge("the service answers", served.ask("GET", "/records/1") == 200)
+            same(f"{name}: no register, and its message", script("office-overdue", *words, **how), (1, "", wanted_error))
+            same(f"{name}: the old register stays, and nothing is beside it",
+                 (register.read_bytes(), sorted(each.name for each in registers.iterdir())), (stands, sorted(
+                     f"{kind}-{each}.csv" for kind in ("awaiting", "overdue") for each in day.values())))
+        judge("the service answers", served.status("GET", "/records/1") == 200)
     finally:
         served.end()
     judge(
@@ -106,9 +97,12 @@ def to_do(folder: pathlib.Path, file: pathlib.Path, register: pathlib.Path) -> N
     script("office-overdue-mail", register, "a@localhost", PATH=path)
     judge("a configuration that an upgrade left behind is in the mail",
           sent.read_text().endswith("(office-copies says what to do)\nold /etc/nginx/office/http.conf\n"), sent.read_text())
-    for name, words in (("a day that is none", ("x", 30)), ("a day that is a query", ("2025-02-0'", 30)), ("too many days", (day, 3651))):
-        status, out, error = script("office-todo", file, register.parent, *words, user=NOBODY)
-        judge(f"{name}: no list", (status, out) == (1, ""), error.strip())
+    for name, words, error in (
+        ("a day that is none", ("x", 30), "office-todo: 'x' is no day\n"),
+        ("a day that is a query", ("2025-02-0'", 30), "office-todo: '2025-02-0'' is no day\n"),
+        ("too many days", (day, 3651), f"office: refused 2\noffice-todo: there is no list of {day} and 3651 days\n"),
+    ):
+        same(f"{name}: no list", script("office-todo", file, register.parent, *words, user=NOBODY), (1, "", error))
 
 
 def mails(folder: pathlib.Path, register: pathlib.Path, wanted: str) -> None:
@@ -128,13 +122,13 @@ def mails(folder: pathlib.Path, register: pathlib.Path, wanted: str) -> None:
         error + str(words),
     )
     sent.unlink(missing_ok=True)
-    for name, words in (
-        ("no address", (register,)),
-        ("an option", (register, "-f")),
-        ("a register that is not there", (folder / "none.csv", "a@localhost")),
+    none = folder / "none.csv"
+    for name, words, wanted_answer in (
+        ("no address", (register,), (2, "", "usage: office-overdue-mail REGISTER ADDRESS ..\n")),
+        ("an option", (register, "-f"), (2, "", "office-overdue-mail: '-f' is no address\n")),
+        ("a register that is not there", (none, "a@localhost"), (1, "", f"office-overdue-mail: there is no {none}\n")),
     ):
-        status, _, error = script("office-overdue-mail", *words, PATH=path)
-        judge(f"{name}: nothing is sent", status in (1, 2) and not sent.exists(), error.strip())
+        same(f"{name}: nothing is sent", (script("office-overdue-mail", *words, PATH=path), sent.exists()), (wanted_answer, False))
     mailx = shutil.which("bsd-mailx")
     if not mailx:
         print("not tried here: bsd-mailx is not installed")

@@ -8,8 +8,9 @@ import pathlib
 import shutil
 import signal
 
-from service_place import (FIRST, LAST, NOBODY, OFFICE, RECORDS, Served, apply, counted, first_acts, judge, made,
-                           path_with, run, run_acts, script, sum_of)
+from service_place import (FIRST, LAST, NOBODY, OFFICE, RECORDS, Served, apply, counted, first_acts, made, path_with,
+                           run, run_acts, script, sum_of)
+from shared.judging import judge
 
 HOLDS = [{"act": "place-hold", "code": "H-1", "reason": "A lawsuit", "by": "Legal office"},
          {"act": "hold-on", "hold": "H-1", "target": f"record:{2 * RECORDS}"},
@@ -58,7 +59,7 @@ def prepared(folder: pathlib.Path) -> tuple[pathlib.Path, pathlib.Path]:
     run(OFFICE, "resume", file, user=NOBODY)
     apply(file, [{**it, "day": LAST} for it in LATER], NOBODY)
     served = Served(file)
-    served.ask("POST", "/acts", json.dumps(LAST_HOLD).encode())
+    served.status("POST", "/acts", json.dumps(LAST_HOLD).encode())
     served.end()
     return file, copy
 
@@ -143,7 +144,7 @@ def cut_off(file: pathlib.Path, copy: pathlib.Path) -> None:
         it.unlink()
     served = Served(file)
     acts = [{**it, "day": LAST, "ref": f"cut-{it['ref']}"} for it in first_acts() if it["act"] == "add-record"][:1]
-    served.ask("POST", "/acts", json.dumps(acts).encode())
+    served.status("POST", "/acts", json.dumps(acts).encode())
     served.end()
     old = file.with_name("office.db.before-20250102T030405Z")
     os.link(file, old)

@@ -2,43 +2,40 @@
 from __future__ import annotations
 
 import datetime
+import os
 import pathlib
-import threading
 import time
 from collections.abc import Callable
 
 
 def written(folder: pathlib.Path, take: Callable[..., tuple[int, str, str]], records: Callable[[], list[dict]],
-            same: Callable[..., None]) -> None:
+            same: Callable[..., object]) -> None:
     """A writer pauses in the middle of a document, and intakes go on meanwhile."""
     place = folder / "scans"
     place.mkdir()
-    (place / "half.pdf").write_bytes(b"%PDF-1.4 half")
+    half, whole = place / "half.pdf", place / "whole.txt"
+    half.write_bytes(b"%PDF-1.4 half")
     status, _, said = take(place)
     same("a file that came just now is left for the next call", (status, "left out: half.pdf: it is still changing" in said,
                                                                  records()), (1, True, []))
-    parts = [b"part %d;" % it for it in range(5)]
-
-    def write() -> None:
-        with (place / "half.pdf").open("wb", buffering=0) as file:
-            for part in parts:
-                file.write(part)
-                time.sleep(0.8)
-
-    writer = threading.Thread(target=write)
-    writer.start()
-    (place / "whole.txt").write_bytes(b"whole")
-    seen, end = [], time.monotonic() + 60
-    while time.monotonic() < end and len(records()) < 2:
-        seen.append(take(place, "--settle", "2")[0])
-        time.sleep(0.2)
-    writer.join()
-    same("a document whose writer pauses is filed whole, and the file beside it too", {it["ref"]: it["length"] for it in records()},
+    whole.write_bytes(b"whole")
+    parts = [b"part %d;" % it for it in range(3)]
+    half.write_bytes(b"")
+    for part in parts:
+        with half.open("ab") as file:
+            file.write(part)
+        # as long as no machine is busy: the writer's pause is never taken for its end
+        status, _, said = take(place, "--settle", "3600")
+        same("while it is written both files are left out", (status, said.count("it is still changing"), records()), (1, 2, []))
+    for each in (half, whole):
+        os.utime(each, (time.time() - 7200,) * 2)
+    same("an hour after its last change a document is filed", take(place, "--settle", "3600")[0], 0)
+    same("a document whose writer paused is filed whole, and the file beside it too", {it["ref"]: it["length"] for it in records()},
          {"BP/half.pdf": sum(map(len, parts)), "BP/whole.txt": 5})
-    same("the calls before left it out, and the next says that all is there", (seen[0], take(place, "--settle", "0")[0]), (1, 0))
+    same("and the next call says that all is there", (take(place, "--settle", "0")[0], len(records())), (0, 2))
 
 
-def between(folder: pathlib.Path, same: Callable[..., None]) -> None:
+def between(folder: pathlib.Path, same: Callable[..., object]) -> None:
     """A file changes after it was looked at, and before or while its bytes are read."""
     from asking.sending import NotMade  # noqa: PLC0415
     from intaking.files import documents  # noqa: PLC0415

@@ -38,7 +38,7 @@ def random_mail(rng: random.Random) -> bytes:
     return b"\n".join(lines) + rng.choice((b"\n\nA letter.\n", b"", b"\r\n\r\n"))
 
 
-def broken(folder: pathlib.Path, filed: Callable[[pathlib.Path], tuple[int, dict[str, str], str]], same: Callable[..., None]) -> None:
+def broken(folder: pathlib.Path, filed: Callable[[pathlib.Path], tuple[int, dict[str, str], str]], same: Callable[..., object]) -> None:
     """Each broken mail lies between two good ones, and so do some thousands that are made by chance."""
     place = folder / "each"
     for at, head in enumerate(BROKEN.values()):
@@ -71,7 +71,7 @@ def broken(folder: pathlib.Path, filed: Callable[[pathlib.Path], tuple[int, dict
     same("and each of the others is filed or named", (mails <= named | set(titles), status in (0, 1), "Traceback" in said), (True, True, False))
 
 
-def seconds(mail_of: Callable[[bytes], object], same: Callable[..., None]) -> None:
+def seconds(mail_of: Callable[[bytes], object], same: Callable[..., object]) -> None:
     """A subject of 64 KB that looks like words of many charsets takes no more time than it has bytes."""
     spent = []
     for size in (16_000, 64_000):
@@ -82,7 +82,7 @@ def seconds(mail_of: Callable[[bytes], object], same: Callable[..., None]) -> No
     same("the time for a long subject grows with its length at most", spent[1] < 6 * max(spent[0], 0.05), True)
 
 
-def days(folder: pathlib.Path, filed: Callable[..., tuple[int, dict[str, str], str]], same: Callable[..., None]) -> None:
+def days(folder: pathlib.Path, filed: Callable[..., tuple[int, dict[str, str], str]], same: Callable[..., object]) -> None:
     """A day of the sender that is far from that of the server is named."""
     place = folder / "days"
     place.mkdir()

@@ -22,7 +22,7 @@ def box(numbers: list[int]) -> bytes:
 
 
 def shuffled(folder: pathlib.Path, take: Callable[[pathlib.Path], tuple[int, str, str]], titles: Callable[[], list[str]],
-             same: Callable[..., None]) -> None:
+             same: Callable[..., object]) -> None:
     """Mails are taken out, moved within a box and to another, and new ones come: the set of records is that of all mails."""
     rng, place = random.Random(4), folder / "mails"
     place.mkdir()
@@ -92,7 +92,7 @@ def catalogue(folder: pathlib.Path, records: list[dict]) -> pathlib.Path:
 
 
 def earlier(folder: pathlib.Path, take: Callable[..., tuple[int, str, str]], port: int, records: Callable[[], list[dict]],
-            same: Callable[..., None]) -> None:
+            same: Callable[..., object]) -> None:
     """A mailbox that an earlier version took in, with places for refs: none of its mails is filed again."""
     place, journal = folder / "old", folder / "old.intake.json"
     place.mkdir()

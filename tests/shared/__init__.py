@@ -1,0 +1,1 @@
+"""What trials share: judgements, commands, ports and served offices."""
