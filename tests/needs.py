@@ -38,8 +38,10 @@ NEEDS = {
     "gcc": Need("gcc libc6-dev", "gcc"),
     "h11": Need("python3-h11", modules="h11"),
     "jsonschema": Need("python3-jsonschema python3-yaml", modules="jsonschema yaml"),
-    "lint": Need("pyflakes3 mypy shellcheck node-typescript nftables logrotate man-db mandoc systemd",
-                 "pyflakes3 mypy shellcheck tsc nft logrotate man mandoc systemd-analyze"),
+    "lint": Need("pyflakes3 mypy shellcheck nodejs node-typescript nftables logrotate fail2ban prometheus "
+                 "groff mandoc libxml2-utils systemd dpkg-dev",
+                 "pyflakes3 mypy shellcheck node tsc nft logrotate fail2ban-regex promtool "
+                 "groff mandoc xmllint systemd-analyze dpkg-parsechangelog"),
     "miller": Need("miller", "mlr"),
     "nginx": Need("nginx libnginx-mod-http-js libnginx-mod-http-auth-pam apache2-utils", "nginx htpasswd",
                   files="/usr/lib/nginx/modules/ngx_http_js_module.so /usr/lib/nginx/modules/ngx_http_auth_pam_module.so"),

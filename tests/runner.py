@@ -17,6 +17,8 @@ import needs
 TOP = pathlib.Path(__file__).resolve().parent.parent
 COUNTS = re.compile(r"^([\d,]+) (?:passed|seen|apply), ([\d,]+) (?:failed|not seen|do not)$")
 SHARE = re.compile(r"^([\d,]+) of ([\d,]+) found$")
+# a judgement that failed, or a finding in a file
+WRONG = re.compile(r"\s*(FAILED|failed|wrong)\b|[\w./-]+:\d+: ")
 # a trial that cannot be run here ends with this status, and its last line says why
 SKIPPED = 77
 # a network of one's own, and processes that end with the trial
@@ -202,7 +204,7 @@ def judged(trial: Trial, log: pathlib.Path, status: int, is_over_limit: bool, is
 def worst_lines(log: pathlib.Path) -> list[str]:
     """What a failed trial printed: each judgement that failed, with the line below it, and the end."""
     lines = log.read_text(errors="replace").rstrip("\n").split("\n")
-    wrong = [number for number, line in enumerate(lines) if re.match(r"\s*(FAILED|failed|wrong)\b", line)]
+    wrong = [number for number, line in enumerate(lines) if WRONG.match(line)]
     chosen = sorted({near for number in wrong[:JUDGED] for near in (number, number + 1)} |
                     set(range(max(len(lines) - TAIL, 0), len(lines))))
     return [lines[number][:400] for number in chosen if number < len(lines)]

@@ -15,7 +15,7 @@ def parts_of(command: str, required: str, **limits: int) -> list[Trial]:
 
 
 CHECKS = [
-    Trial("tests/lint/run", "each file is well formed: types, units, sites, texts, pages of the manual", needs="lint nginx", limit=600),
+    Trial("tests/lint/run", "each file is well formed: types, units, sites, texts, pages of the manual", needs="lint nginx openssl aiohttp h11 jsonschema", limit=600),
     Trial("tests/runner_trial", "trials are run, judged and skipped as they should be", needs="", limit=120),
     Trial("tests/mutants/applies", "each mutant can still be applied", needs="", limit=60),
     *(Trial(f"{command} --applies", "each planted mistake can still be planted", needs="", limit=60) for command in PLANTED),
