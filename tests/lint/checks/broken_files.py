@@ -80,7 +80,7 @@ BREAKS = (
     # the package
     Break("packaging/files", "service/office-yearend  ", "service/office-yearends ", "lists"),
     Break("service/nowhere.py", "", "pass", "lists"),
-    Break("service/office-prune", "# office-prune FOLDER|FILE\n#\n", "# office-prune FOLDER|FILE\n", "manual", ("service/office-prune", "#!/bin/sh")),
+    Break("service/office-prune", "# office-prune FOLDER|FILE\n#\n", "# office-prune FOLDER|FILE\n", "manual", ("service/office-prune", "# Removes copies whose time has come.")),
     Break("packaging/copyright", "Copyright (C) 2026 the owners of Hakirohe", "", "copyright", ("packaging/copyright", "The records disposal office")),
     Break("CHANGELOG.md", "## 1.0.0 (", "## 1.0 0 (", "changelog"),
     # planted mistakes

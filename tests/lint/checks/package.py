@@ -26,8 +26,12 @@ def making(name: str) -> Any:
 
 def rows(name: str) -> list[tuple[int, str, str]]:
     """Returns the lines of a list: number, source and place."""
-    lines = enumerate(read(name).split("\n"), 1)
-    return [(at, *(line.split() + ["", ""])[:2]) for at, line in lines if line and not line.startswith("#")]
+    found = []
+    for at, line in enumerate(read(name).split("\n"), 1):
+        if line and not line.startswith("#"):
+            source, place, *_ = [*line.split(), "", ""]
+            found.append((at, source, place))
+    return found
 
 
 def lists(names: list[str]) -> list[Finding]:
@@ -74,6 +78,17 @@ def has_page(name: str) -> bool:
     return name == "README.md" or any(source == name and place == "/usr/bin" for it in LISTS[:2] for _, source, place in rows(it))
 
 
+def usage(name: str) -> list[Finding]:
+    """Looks at the first paragraph of a script's first comment: each line is a way to call it."""
+    findings = []
+    for at, line in enumerate(read(name).split("\n")[1:], 2):
+        if not line.startswith("# "):
+            break
+        if not line.startswith(f"# {pathlib.PurePosixPath(name).name}"):
+            findings.append(Finding(name, at, "no call of the script, and no empty line before it, for the manual page"))
+    return findings[:1]
+
+
 def manuals(names: list[str]) -> list[Finding]:
     """Makes each manual page, and has groff and mandoc read it."""
     need("groff", "mandoc")
@@ -91,8 +106,8 @@ def manuals(names: list[str]) -> list[Finding]:
                 at = re.search(r"page\.1:(\d+)", it)
                 piece = text.split("\n")[int(at[1]) - 1] if at else ""
                 findings.append(Finding(name, line_of(read(name), piece[:30]), f"its manual page: {it.partition('page.1:')[2]}: {piece[:60]}"))
-            if name != "README.md" and text and not re.search(r"^\.SH SYNOPSIS\n.*\n\.SH DESCRIPTION\n", text, re.M):
-                findings.append(Finding(name, 1, "the first line of its first comment is no usage with an empty line behind it"))
+            if name != "README.md":
+                findings += usage(name)
             for part in ("NAME", "SYNOPSIS", "DESCRIPTION"):
                 if text and not re.search(rf"^\.SH {part}\n(?!\.SH)(.+)", text, re.M):
                     findings.append(Finding(name, 1, f"its manual page has nothing under {part}"))
