@@ -75,19 +75,19 @@ def office(version: str, day: str, scripts: list[str]) -> str:
 
 
 def script(name: str, text: str, version: str, day: str) -> str:
-    """The page of a script: its first comment, whose first line shows how it is called."""
+    """The page of a script: its first comment, whose first paragraph shows how it is called, a line for each way."""
     comment: list[str] = []
     for line in text.split("\n")[1:]:
         if not line.startswith("#"):
             break
         comment.append(line.removeprefix("#").strip())
     paragraphs = "\n".join(comment).split("\n\n")
-    usage, about = paragraphs[0], [it.replace("\n", " ") for it in paragraphs[1:]]
+    calls, about = paragraphs[0].split("\n"), [it.replace("\n", " ") for it in paragraphs[1:]]
     first = about[0].split(". ")[0].rstrip(".").split(", ")[0]
     lines = [
         f'.TH {name.upper()} 1 {day} "office {version}" "User Commands"',
         ".SH NAME", f"{plain(name)} \\- {plain(first[0].lower() + first[1:])}",
-        ".SH SYNOPSIS", call(usage).removeprefix("\\fBoffice\\fP "),
+        ".SH SYNOPSIS", "\n.br\n".join(call(it).removeprefix("\\fBoffice\\fP ") for it in calls),
         ".SH DESCRIPTION", *[line for it in about for line in (plain(it), ".PP")][:-1],
         ".SH SEE ALSO", "\\fBoffice\\fP(1), \\fI/usr/share/doc/office/docs/\\fP",
     ]

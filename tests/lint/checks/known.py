@@ -10,6 +10,15 @@ from checks.tree import TOP
 LIST = pathlib.Path(__file__).resolve().parent.parent / "known.txt"
 
 
+NAME = str(LIST.relative_to(TOP))
+
+
+def with_known(tool: str, names: list[str]) -> list[str]:
+    """Returns the files to read: these, and if the list is among them all that it has for a tool."""
+    more = [file for file in lines_of(tool) if (TOP / file).is_file()] if NAME in names else []
+    return sorted({*names, *more} - {NAME})
+
+
 def lines_of(tool: str) -> dict[str, tuple[int, int]]:
     """Reads the lines of a tool: for each file how many findings are known, and the line that says it."""
     known = {}
@@ -28,7 +37,7 @@ def compared(tool: str, errors: list[Finding], names: list[str]) -> list[Finding
     by_file = collections.defaultdict(list)
     for error in errors:
         by_file[error.file].append(error)
-    known, where = lines_of(tool), str(LIST.relative_to(TOP))
+    known = lines_of(tool)
     findings = []
     for file, own in sorted(by_file.items()):
         most, _ = known.get(file, (0, 0))
@@ -37,7 +46,7 @@ def compared(tool: str, errors: list[Finding], names: list[str]) -> list[Finding
     for file, (most, line) in known.items():
         count = len(by_file[file])
         if not (TOP / file).is_file():
-            findings.append(Finding(where, line, f"{file} is gone: take its line out"))
+            findings.append(Finding(NAME, line, f"{file} is gone: take its line out"))
         elif file in names and count < most:
-            findings.append(Finding(where, line, f"{tool} has {count} for {file}: lower it to {count}"))
+            findings.append(Finding(NAME, line, f"{tool} has {count} for {file}: lower it to {count}"))
     return findings

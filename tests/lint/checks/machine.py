@@ -86,7 +86,7 @@ def prometheus(names: list[str]) -> list[Finding]:
         text = read(name)
         done = call(["promtool", "check", kind, "--syntax-only", name] if kind == "config" else ["promtool", "check", kind, name], cwd=TOP)
         if done.status:
-            line = re.search(r"line (\d+)|:(\d+):\d+:", done.text)
+            line = re.search(r"line (\d+)|[ :](\d+):\d+:", done.text)
             at = int(line[1] or line[2]) if line else line_of(text, "rules")
             findings.append(Finding(name, at, " ".join(done.text.split())[:300]))
     return findings

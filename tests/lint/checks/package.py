@@ -8,7 +8,7 @@ import sys
 import tempfile
 from typing import Any
 
-from checks.finding import Finding, Skipped, call, line_of, need
+from checks.finding import Finding, call, line_of, need
 from checks.tree import TOP, files, interpreter, read, suffix
 
 LISTS = ("packaging/files", "packaging/replicas/files", "packaging/copies")
@@ -26,8 +26,12 @@ def making(name: str) -> Any:
 
 def rows(name: str) -> list[tuple[int, str, str]]:
     """Returns the lines of a list: number, source and place."""
-    lines = enumerate(read(name).split("\n"), 1)
-    return [(at, *(line.split() + ["", ""])[:2]) for at, line in lines if line and not line.startswith("#")]
+    found = []
+    for at, line in enumerate(read(name).split("\n"), 1):
+        if line and not line.startswith("#"):
+            source, place, *_ = [*line.split(), "", ""]
+            found.append((at, source, place))
+    return found
 
 
 def lists(names: list[str]) -> list[Finding]:
@@ -62,13 +66,27 @@ def pages() -> dict[str, str]:
         for it in staging.listed(of):
             if it.folder == "usr/bin":
                 name = str(it.source.relative_to(TOP))
-                texts[name] = manual.script(it.source.name, it.source.read_text(), VERSION, DAY)
+                try:
+                    texts[name] = manual.script(it.source.name, it.source.read_text(), VERSION, DAY)
+                except IndexError:
+                    texts[name] = ""  # a first comment without a usage, an empty line and a text
     return texts
 
 
 def has_page(name: str) -> bool:
     """Whether the package makes a manual page of a file."""
     return name == "README.md" or any(source == name and place == "/usr/bin" for it in LISTS[:2] for _, source, place in rows(it))
+
+
+def usage(name: str) -> list[Finding]:
+    """Looks at the first paragraph of a script's first comment: each line is a way to call it."""
+    findings = []
+    for at, line in enumerate(read(name).split("\n")[1:], 2):
+        if not line.startswith("# "):
+            break
+        if not line.startswith(f"# {pathlib.PurePosixPath(name).name}"):
+            findings.append(Finding(name, at, "no call of the script, and no empty line before it, for the manual page"))
+    return findings[:1]
 
 
 def manuals(names: list[str]) -> list[Finding]:
@@ -81,15 +99,17 @@ def manuals(names: list[str]) -> list[Finding]:
                 continue
             page = pathlib.Path(folder, "page.1")
             page.write_text(text)
-            complaints = call(["groff", "-K", "utf8", "-man", "-Tutf8", "-ww", "-z", page]).text.splitlines()
+            complaints = [] if text else ["page.1:1: there is no usage, empty line and text in the first comment"]
+            complaints += call(["groff", "-K", "utf8", "-man", "-Tutf8", "-ww", "-z", page]).text.splitlines()
             complaints += [it for it in call(["mandoc", "-T", "lint", "-W", "warning", page]).text.splitlines() if it]
             for it in complaints:
                 at = re.search(r"page\.1:(\d+)", it)
                 piece = text.split("\n")[int(at[1]) - 1] if at else ""
                 findings.append(Finding(name, line_of(read(name), piece[:30]), f"its manual page: {it.partition('page.1:')[2]}: {piece[:60]}"))
+            if name != "README.md":
+                findings += usage(name)
             for part in ("NAME", "SYNOPSIS", "DESCRIPTION"):
-                body = re.search(rf"^\.SH {part}\n(?!\.SH)(.+)", text, re.M)
-                if not body:
+                if text and not re.search(rf"^\.SH {part}\n(?!\.SH)(.+)", text, re.M):
                     findings.append(Finding(name, 1, f"its manual page has nothing under {part}"))
     return findings
 
@@ -104,8 +124,10 @@ def completion(names: list[str]) -> list[Finding]:
         done = call(["bash", "-n", made])
     findings = [Finding(names[0], 1, f"{mark} is still there") for mark in re.findall(r"@[A-Z]+@", text)]
     if done.status or done.text:
-        at = re.search(r"line (\d+)", done.text)
-        findings.append(Finding(names[0], int(at[1]) if at else 1, done.text.strip()[:200]))
+        source = read("packaging/completion")
+        at, more = re.search(r"line (\d+)", done.text), text.count("\n") - source.count("\n")
+        place, line = line_of(source, "@OPERANDS@"), int(at[1]) if at else 1
+        findings.append(Finding(names[0], line if line < place else max(place, line - more), done.text.strip()[:200]))
     return findings
 
 
@@ -137,14 +159,16 @@ def changelog(names: list[str]) -> list[Finding]:
     need("dpkg-parsechangelog")
     module = making("changelog")
     text = read("CHANGELOG.md")
+    findings = [Finding(names[0], at, f"no heading of a version: {line}") for at, line in enumerate(text.split("\n"), 1)
+                if line.startswith("## ") and line != "## Next" and not module.HEADING.fullmatch(line)]
+    if findings or not module.HEADING.search(text):
+        return findings or [Finding(names[0], 1, "no version has a number")]
     versions = [it for it in module.versions() if "+git" not in it.number]
-    if not versions:
-        raise Skipped("no version has a number")
     with tempfile.TemporaryDirectory(prefix="lint-changelog-") as folder:
         made = pathlib.Path(folder, "changelog")
         made.write_text(module.debian(versions, "A Name <name@example.org>"))
         done = call(["dpkg-parsechangelog", "--all", "-l", made])
-    findings = [Finding(names[0], 1, line) for line in done.text.splitlines() if "warning" in line or "error" in line]
+    findings += [Finding(names[0], 1, line) for line in done.text.splitlines() if "warning" in line or "error" in line]
     days = [it.day for it in versions]
     if days != sorted(days, reverse=True):
         findings.append(Finding(names[0], line_of(text, "## "), "the days of the versions do not go back"))

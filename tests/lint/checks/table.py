@@ -4,7 +4,7 @@ from __future__ import annotations
 from collections.abc import Callable
 from typing import NamedTuple
 
-from checks import data, javascript, machine, mutants, nginx_files, package, page, python_files, shell, texts, type_counts, units
+from checks import data, javascript, known, machine, mutants, nginx_files, package, page, python_files, shell, texts, type_counts, units
 from checks.finding import Finding
 from checks.tree import is_ours, is_python, is_shell, suffix
 
@@ -28,6 +28,11 @@ def is_javascript(name: str) -> bool:
     return is_ours(name) and suffix(name) in (".js", ".mjs")
 
 
+def is_of_page(name: str) -> bool:
+    """Whether a file is a module of the page."""
+    return name.startswith("web/") and suffix(name) == ".js"
+
+
 def ends(*endings: str) -> Callable[[str], bool]:
     """Returns whether a name outside of the crates ends in one of these."""
     return lambda name: is_ours(name) and name.endswith(endings)
@@ -40,17 +45,16 @@ def is_of_texts(name: str) -> bool:
 
 # the longest come first, so that two at a time end together
 CHECKS = (
-    Check("mypy", "types of Python, as far as known.txt lets them be", type_counts.is_typed, type_counts.mypy),
+    Check("mypy", "types of Python, as far as known.txt lets them be", lambda name: type_counts.is_typed(name) or name == known.NAME, type_counts.mypy),
     Check("pyflakes", "unused imports, names that are not there", is_python, python_files.pyflakes),
     Check("tsc", "types of the page, as far as known.txt lets them be",
-          lambda name: name.startswith("web/") and suffix(name) == ".js", type_counts.tsc),
+          lambda name: is_of_page(name) or name == known.NAME, type_counts.tsc),
     Check("shellcheck", "scripts, by shellcheck's warnings", is_shell, shell.shellcheck),
     Check("python", "Python compiles without a warning", is_python, python_files.compiled),
     Check("shell", "scripts are read by their shells", is_script, shell.parsed),
     Check("texts", "texts of the page in each language, and what names them", is_of_texts, texts.texts),
     Check("javascript", "JavaScript is read by node", is_javascript, javascript.parsed),
-    Check("imports", "what modules of the page import is there", lambda name: name.startswith("web/") and suffix(name) == ".js",
-          page.imports),
+    Check("imports", "what modules of the page import is there", is_of_page, page.imports),
     Check("html", "HTML is balanced, and what it names is there", ends(".html"), page.html_files),
     Check("css", "style sheets are balanced, and have known rules", ends(".css"), page.css_files),
     Check("json", "JSON can be read", ends(".json"), data.json_files),

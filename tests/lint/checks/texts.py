@@ -26,14 +26,17 @@ def module() -> Any:
 
 
 def line_of_key(name: str, key: str) -> int:
-    """Returns the line of a file of texts that has a key, or that of its part."""
-    text, at = read(name), 0
-    for step in key.split("."):
-        match = re.compile(rf"^\s*{re.escape(json.dumps(step, ensure_ascii=False))}:", re.M).search(text, at)
-        if match is None:
+    """Returns the line of a file of texts that has a key, or that of its part; each part is two spaces further in."""
+    lines, at = read(name).split("\n"), 0
+    for depth, step in enumerate(key.split("."), 1):
+        indent, start = "  " * depth, f"{'  ' * depth}{json.dumps(step, ensure_ascii=False)}:"
+        below = range(at + 1, len(lines))
+        end = next((line for line in below if not lines[line].startswith(indent)), len(lines))
+        line = next((line for line in range(at + 1, end) if lines[line].startswith(start)), None)
+        if line is None:
             break
-        at = match.end()
-    return line_at(text, at)
+        at = line
+    return at + 1
 
 
 def place_of(judgement: str, key: str) -> tuple[str, int]:

@@ -65,7 +65,7 @@ def mypy(names: list[str]) -> list[Finding]:
     version = call([PYTHON, "-m", "mypy", "--version"]).text
     if version.split()[:2] != ["mypy", MYPY_VERSION]:
         raise Skipped(f"mypy is not {MYPY_VERSION}: {version.strip()[-80:]}")
-    findings, read = [], []
+    names, read, findings = known.with_known("mypy", names), [], []
     with tempfile.TemporaryDirectory(prefix="lint-mypy-") as cache:
         for group in GROUPS:
             places = tuple(f"{group.folder}/{package}/" for package in group.packages)
@@ -81,11 +81,11 @@ def tsc(names: list[str]) -> list[Finding]:
     version = call(["tsc", "--version"]).text.split()[-1:]
     if version != [TSC_VERSION]:
         raise Skipped(f"tsc is not {TSC_VERSION}: {' '.join(version)}")
-    page = [name for name in files() if name.startswith("web/") and suffix(name) == ".js"]
+    names = known.with_known("tsc", names)
     args = ["tsc", "--allowJs", "--checkJs", "--noEmit", "--target", "es2022", "--module", "es2022",
-            "--moduleResolution", "node", "--typeRoots", "/nonexistent", "--pretty", "false", *page]
+            "--moduleResolution", "node", "--typeRoots", "/nonexistent", "--pretty", "false", *names]
     done = call(args, cwd=TOP)
     errors = findings_in(done.text, TSC)
     if done.status and not errors:
         errors = [Finding(names[0], 1, done.text.strip()[-300:])]
-    return known.compared("tsc", errors, page)
+    return known.compared("tsc", errors, names)

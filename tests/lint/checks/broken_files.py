@@ -1,0 +1,93 @@
+"""Files to break, each with the check that must be red and name the file and the line."""
+from __future__ import annotations
+
+from typing import NamedTuple
+
+NO_PROGRAM = "this is (no program"
+
+
+class Break(NamedTuple):
+    """A change of a file: what is there, what is put in its place, the check, and where it must point.
+
+    Without a text that is there, the new one becomes the last line. `place` is the file and a text of the line to which
+    the check points; without it that is the line of the change.
+    """
+
+    file: str
+    old: str
+    new: str
+    check: str
+    place: tuple[str, str] | None = None
+
+
+BREAKS = (
+    # what no check saw when each was appended to a file of its own
+    Break("web/office.js", "", NO_PROGRAM, "javascript"),
+    Break("service/gate/office_gate/serving.py", "", NO_PROGRAM, "python"),
+    Break("service/vault/office_vault/objects.py", "", NO_PROGRAM, "python"),
+    Break("replicas/replica/log.py", "", NO_PROGRAM, "python"),
+    Break("tools/convert", "", NO_PROGRAM, "python"),
+    Break("packaging/make", "", NO_PROGRAM, "python"),
+    Break("tests/run", "", NO_PROGRAM, "python"),
+    # Python and types
+    Break("service/office_serve/child.py", "", "import base64", "pyflakes"),
+    Break("service/office-awaiting", "", "print(never_named)", "pyflakes"),
+    Break("service/office_seal/chain.py", "", "def widened(number: int) -> str:\n    return number",
+          "mypy", ("service/office_seal/chain.py", "    return number\n")),
+    Break("tests/lint/known.txt", "mypy service/office_seal/stamping.py 1", "mypy service/office_seal/stamping.py 2", "mypy"),
+    Break("tests/lint/known.txt", "tsc web/ask.js 2", "tsc web/asks.js 2", "tsc"),
+    Break("web/plain/days.js", "", "floor({}, 1, \"a\");", "tsc"),
+    # scripts
+    Break("service/office-backup", "", "( echo ) )", "shell"),
+    Break("service/office-encrypt", "", "rm $1 $(cat $nowhere)", "shellcheck"),
+    Break("packaging/postinst", "", "fi", "hooks", ("packaging/postinst", "#!/bin/sh")),
+    Break("packaging/completion", "", "( echo ) )", "shell"),
+    Break("packaging/completion", "", "( echo ) )", "completion"),
+    # the page
+    Break("web/views/due.js", "", 'import "./nowhere.js";', "imports"),
+    Break("web/index.html", "</section>", "", "html", ("web/index.html", "</main>")),
+    Break("web/index.html", "</main>", '<p id="view"></p><p id="view"></p></main>', "html"),
+    Break("web/css/todo.css", "", ".todo { color: red", "css"),
+    Break("web/css/todo.css", "", ".todo { color red; }", "css"),
+    Break("web/texts/de.json", '    "skip": "Zum Inhalt springen",\n', "", "texts", ("web/texts/de.json", '"page": {')),
+    Break("web/texts/de.json", '"Seite {page} von {pages}"', '"Seite {page}"', "texts"),
+    Break("web/texts/en.json", '"lang": "en",', '"lang": "en",\n  "neverNamed": "Nobody names this",', "texts",
+          ("web/texts/en.json", '"neverNamed"')),
+    Break("web/views/due.js", "", 'export const NEVER = t("due.neverThere");', "texts"),
+    Break("web/texts/en.json", '"lang": "en",', '"lang": "en", "lang": "en",', "json"),
+    Break("web/icon.svg", "</svg>", "</sgv>", "xml"),
+    # data and pages
+    Break("examples/first/acts.json", "[\n", "[,\n", "json"),
+    Break("docs/openapi.yaml", "      summary: Do acts, one after another\n", "", "openapi", ("docs/openapi.yaml", "operationId: performActs")),
+    Break("service/monitor/blackbox.yml", "  office:\n", "  office: [\n", "yaml", ("service/monitor/blackbox.yml", "timeout: 20s")),
+    Break("docs/ERRORS.md", "", "[nowhere](nowhere.md)", "tests/links"),
+    # what other programs of a machine read
+    Break("service/office@.service", "NoNewPrivileges=yes", "NoNewPrivilege=yes", "units"),
+    Break("service/gate/office-gate@.service", "[Service]", "[Servce]", "units"),
+    Break("service/office-scrub@.timer", "OnCalendar=", "OnCalendar=every ", "units"),
+    Break("service/nginx/gated.conf", "return 404;", "retrun 404;", "nginx"),
+    Break("service/nginx/server.conf", "ssl_session_tickets off;", "ssl_session_tickets off", "nginx", ("service/nginx/server.conf", "server_tokens off;")),
+    Break("service/nginx/acts.js", "", NO_PROGRAM, "javascript"),
+    Break("service/nginx/office.nft", "chain office_ports {", "chian office_ports {", "nft"),
+    Break("service/gate/office-journal.logrotate", "monthly", "monthy", "logrotate"),
+    Break("service/nginx/fail2ban/filter.d/office.conf", "401", "403", "fail2ban"),
+    Break("service/monitor/office.rules.yml", 'probe_success{job="office"} == 0', 'probe_success{job="office" == 0', "prometheus"),
+    Break("service/city.conf", "PORT=8081", "PORT 8081", "environment"),
+    Break("service/replicas/keepalived.conf", "    user office\n}\n", "    user office\n", "keepalived",
+          ("service/replicas/keepalived.conf", "vrrp_script office_member_answers {")),
+    Break("service/gate/city.access", "role registry may", "role registry mya", "access"),
+    Break("service/replicas/city.json", '"listen": 8181', '"listen": "8181"', "members"),
+    # the package
+    Break("packaging/files", "service/office-yearend  ", "service/office-yearends ", "lists"),
+    Break("service/nowhere.py", "", "pass", "lists"),
+    Break("service/office-prune", "# office-prune FOLDER|FILE\n#\n", "# office-prune FOLDER|FILE\n", "manual", ("service/office-prune", "# Removes copies whose time has come.")),
+    Break("packaging/copyright", "Copyright (C) 2026 the owners of Hakirohe", "", "copyright", ("packaging/copyright", "The records disposal office")),
+    Break("CHANGELOG.md", "## 1.0.0 (", "## 1.0 0 (", "changelog"),
+    # planted mistakes
+    Break("service/gate/office_gate/deciding.py", "        if not may[kind]:\n", "        if kind not in may:\n", "mutants",
+          ("tests/gate/mutants", '"the kind of an act is not looked at"')),
+    Break("web/plain/forecast.js", 'row.held === null ? "destroy" : "skip"', 'row.held !== null ? "skip" : "destroy"', "mutants",
+          ("tests/web/planted.py", '"a run is foreseen without its holds"')),
+    Break("tools/transferring/folder.py", "            if is_free:", "            if is_unused:", "tests/transfer/mutants --applies",
+          ("tests/transfer/mutants", '"one run takes away what another writes"')),
+)
