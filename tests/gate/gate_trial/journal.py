@@ -289,6 +289,9 @@ def cut_again(world: World) -> None:
 
 def other_settings(world: World) -> None:
     """Other settings on a full disk: the journal has them before anything that is decided by them."""
+    # the gate's log is shorter than the journal, so that the disk still takes its lines
+    while world.journal.stat().st_size < (world.folder / "log").stat().st_size + 10_000:
+        world.act("legal", {"act": "lift-hold", "hold": "NONE" * 20})
     at_most(world, world.journal.stat().st_size)
     world.settings.write_text("site https://localhost\nzone UTC\n" + SETTINGS + "name extra is auditor\n")
     world.gate.send_signal(signal.SIGHUP)
