@@ -16,7 +16,6 @@ role clerk reads records contents lists certificates catalogue
 name clerk is clerk in BLDG*
 """
 MINE, FOREIGN = "BLDG1", "PER1"
-DAY = today()
 
 
 def tried(folder: pathlib.Path) -> None:
@@ -47,7 +46,7 @@ def refused(world: World, what: str, *acts: dict, place: int | None = None) -> N
 def foreign(world: World) -> None:
     """One act that is about a class of others."""
     for act in ({"act": "confirm", "record": 2, "action": "destroy"}, {"act": "review", "record": 2},
-                {"act": "event", "record": 2, "occurred": DAY},
+                {"act": "event", "record": 2, "occurred": today()},
                 {"act": "set-record-schedule", "record": 2, "schedule": "D0"},
                 {"act": "receipt", "record": 2, "digest": "0" * 64}, {"act": "close-aggregation", "aggregation": 2},
                 {"act": "set-class-schedule", "class": FOREIGN, "schedule": "D0"},
@@ -71,7 +70,7 @@ def foreign(world: World) -> None:
                  "action": "destroy"}):
         refused(world, f"{act['act']} lies in no class", act)
     for number in ("2.0", "2e0", '"2"', "02", " 2", "4294967298"):
-        status, said = world.text("clerk", f'[{{"act":"confirm","day":"{DAY}","record":{number},"action":"destroy"}}]')
+        status, said = world.text("clerk", f'[{{"act":"confirm","day":"{today()}","record":{number},"action":"destroy"}}]')
         judge(f"record {number}", (status, said["error"]) in ((403, "class"), (400, "json")),
               (status, said))
 
@@ -116,7 +115,7 @@ def own(world: World) -> None:
     """What is about one's own classes passes, also where the class is that of a file above."""
     status, said = world.act("clerk", {"act": "add-class", "code": "BLDG2", "title": "t", "schedule": "D0"},
                              {"act": "add-aggregation", "ref": "C", "title": "C", "parent": 1},
-                             filing(3, 1, **{"class": "BLDG1"}), {"act": "event", "record": 1, "occurred": DAY},
+                             filing(3, 1, **{"class": "BLDG1"}), {"act": "event", "record": 1, "occurred": today()},
                              {"act": "hold-on", "hold": "H", "target": "aggregation:1"})
     same("one's own", (status, said), (200, [{"done": True}, {"number": 3}, {"number": 3}, {"done": True},
                                              {"done": True}]))
@@ -151,7 +150,7 @@ def read(world: World) -> None:
                          ("/records/2/content", 403), ("/records/99", 404), ("/records/99/content", 404),
                          ("/certificates/1", 403)):
         same(f"clerk reads {path}", world.ask("clerk", "GET", path)[0], status)
-    for path in (f"/due/{DAY}", f"/overdue/{today(40)}/30"):
+    for path in (f"/due/{today()}", f"/overdue/{today(40)}/30"):
         whole, mine = (world.ask(it, "GET", path)[1] for it in ("auditor", "clerk"))
         rows = [it for it in json.loads(whole) if it["class"].startswith("BLDG")]
         same(f"{path} is filtered", json.loads(mine), rows)
@@ -161,7 +160,7 @@ def read(world: World) -> None:
     # a title that looks like a row
     world.act("registry", filing(6, 1) | {"ref": '"},{"class":"BLDG1","ref":"x'},
               filing(7, 2) | {"ref": '},{"class":"BLDG1"'})
-    refs = [it["ref"] for it in world.get("clerk", f"/due/{DAY}")[1]]
+    refs = [it["ref"] for it in world.get("clerk", f"/due/{today()}")[1]]
     judge("a ref that looks like a row", '"},{"class":"BLDG1","ref":"x' in refs and '},{"class":"BLDG1"' not in refs,
           refs)
     for verb, path in (("GET", "/records/2/files"), ("GET", "/records/2/files/1"), ("GET", "/catalogue/records.json")):

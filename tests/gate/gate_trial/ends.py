@@ -6,11 +6,10 @@ import re
 import signal
 import subprocess
 import sys
-import time
 
 from gate_trial.base import made
 from gate_trial.judging import judge, same
-from gate_trial.world import JOURNAL, PYTHON, World
+from gate_trial.world import JOURNAL, PYTHON, WAIT_SECONDS, World, until
 
 sys.path.insert(0, str(JOURNAL.parent))
 
@@ -39,7 +38,6 @@ def both(world: World) -> None:
     lines = [it for path in files for it in path.read_bytes().splitlines()][:20]
     dropped(world, lines)
     refused(world, lines)
-    minutely(world)
     world.end()
 
 
@@ -72,26 +70,13 @@ def printed(world: World) -> str:
 def reloaded(world: World, count: int) -> str:
     """Has the gate read its settings anew, and returns the last head once there are so many."""
     world.gate.send_signal(signal.SIGHUP)
-    return waited(world, count, 20)
+    return waited(world, count, WAIT_SECONDS)
 
 
 def waited(world: World, count: int, seconds: float) -> str:
     """Waits until so many heads are printed, and returns the last one."""
-    began = time.monotonic()
-    while len(PRINTED.findall(log(world))) < count and time.monotonic() - began < seconds:
-        time.sleep(0.1)
+    until(lambda: len(PRINTED.findall(log(world))) >= count, seconds)
     return PRINTED.findall(log(world))[-1]
-
-
-def minutely(world: World) -> None:
-    """A head is printed in each minute in which a line came."""
-    world.start_gate()
-    count = len(PRINTED.findall(log(world)))
-    for it in range(3):
-        world.ask("auditor", "GET", "/records/1")
-    line = world.lines()[-1]["line"]
-    same("a minute after some lines", int(waited(world, count + 1, 90).split(":")[0]), line)
-    world.stop_gate()
 
 
 def three(world: World) -> list[pathlib.Path]:
@@ -101,8 +86,7 @@ def three(world: World) -> list[pathlib.Path]:
         world.journal.rename(world.folder / name)
         sizes.append((name, (world.folder / name).stat().st_size))
         world.gate.send_signal(signal.SIGHUP)
-        while not world.journal.exists():
-            time.sleep(0.01)
+        judge(f"the gate goes on after {name}", until(world.journal.exists))
         for it in range(4):
             world.act("legal", {"act": "place-hold", "code": f"{name[-4:]}-{it}", "reason": "r"})
         first = world.lines()[0]

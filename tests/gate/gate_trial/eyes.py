@@ -8,7 +8,7 @@ import time
 from gate_trial.base import ROLES, filing, made
 from gate_trial.classes import write_catalogue
 from gate_trial.judging import judge, same
-from gate_trial.world import World, today
+from gate_trial.world import World, today, until
 
 NAMES = "".join(f"name {it} is records-manager\n" for it in ("anna", "berta", "carl", "records-manager"))
 NAMES += "name legal is legal\nname registry is registry\nlimit requests 64\nname anna signs Anna A.\n"
@@ -275,8 +275,9 @@ def again(world: World) -> None:
     same("and after a start", world.act("anna", confirm(record))[0], 200)
     # a run that somebody opened past the gate, since then
     number = past(world, {"act": "open-run", "by": "Anna A."})
-    # a catalogue has whole seconds
-    time.sleep(1.1)
+    # a catalogue has whole seconds, and this one is of a later second than what the journal has
+    second = int(time.time())
+    until(lambda: int(time.time()) > second)
     opened_run(world, time.time(), number, "Anna A.")
     same("the catalogue has who opened it", resume(world, "anna"), 403)
     same("another one carries it out", resume(world, "carl"), 200)

@@ -6,12 +6,12 @@ import signal
 import subprocess
 import sys
 import threading
-import time
 from collections import Counter
+from collections.abc import Callable
 
 from gate_trial.base import SETTINGS, filing, made
 from gate_trial.judging import judge, same
-from gate_trial.world import JOURNAL, PYTHON, World
+from gate_trial.world import JOURNAL, PYTHON, World, until
 
 sys.path.insert(0, str(JOURNAL.parent))
 
@@ -19,7 +19,11 @@ from office_gate import chain, checking  # noqa: E402
 from office_gate.errors import Refused  # noqa: E402
 
 EACH = 20
-"""so many requests of each client"""
+"""so many requests of each client at least"""
+LEAST_TURNS = 3
+"""so many rotations at least meanwhile"""
+MOST = 500
+"""so many requests of each client at most, if no rotation comes"""
 
 
 def tried(folder: pathlib.Path) -> None:
@@ -126,10 +130,7 @@ def rotated(world: World) -> None:
     for name in ("journal-20260101", "journal-20260102"):
         world.journal.rename(world.folder / name)
         world.gate.send_signal(signal.SIGHUP)
-        for _ in range(200):
-            if world.journal.exists():
-                break
-            time.sleep(0.01)
+        judge("the gate goes on in a new file", until(world.journal.exists))
         same("an act after a rotation", world.act("legal", {"act": "lift-hold", "hold": "NONE"})[0], 409)
         same("the chain holds", check(world.journal)[0], 0)
     judge("the new file begins in the middle", json.loads(world.journal.read_bytes().split(b"\n")[0])["line"] > 20)
@@ -174,39 +175,47 @@ def beside(world: World) -> None:
     """Readings, acts, contents, rotations: all at once they leave one chain, with each of them in it."""
     world.start_gate()
     seen: Counter[tuple[str, int]] = Counter()
+    turns = 0
 
-    def reads(at: int) -> None:
-        for _ in range(EACH):
-            seen["read", world.ask("auditor", "GET", f"/records/{at}")[0]] += 1
+    def goes_on(count: int) -> bool:
+        return count < EACH or turns < LEAST_TURNS and count < MOST
 
-    def acts(at: int) -> None:
-        for it in range(EACH):
-            seen["act", world.act("legal", {"act": "place-hold", "code": f"B{at}-{it}", "reason": "r"})[0]] += 1
+    def each(what: str, ask: Callable[[int], int]) -> None:
+        count = 0
+        while goes_on(count):
+            seen[what, ask(count)] += 1
+            count += 1
 
-    def files(at: int) -> None:
-        for it in range(EACH):
-            seen["file", world.act("records-manager", filing(1000 * at + it, 1, b"z" * 9000))[0]] += 1
+    def client(at: int, other: str) -> list[threading.Thread]:
+        kinds: list[tuple[str, Callable[[int], int]]] = [
+            *[("read", lambda _: world.ask("auditor", "GET", f"/records/{at}")[0])] * 2,
+            ("act", lambda it: world.act("legal", {"act": "place-hold", "code": f"B{at}-{it}", "reason": "r"})[0]),
+            ("file", lambda it: world.act(other, filing(1000 * at + it, 1, b"z" * 9000))[0])]
+        return [threading.Thread(target=each, args=it) for it in kinds]
 
-    threads = [threading.Thread(target=it, args=(at,)) for at in (1, 2) for it in (reads, reads, acts, files)]
+    threads = [it for at in (1, 2) for it in client(at, "records-manager")]
     for it in threads:
         it.start()
-    turns = 0
     while any(it.is_alive() for it in threads):
-        time.sleep(0.1)
-        turns += 1
+        # some requests lie between two rotations
+        wanted = seen.total() + 12
+        until(lambda: seen.total() >= wanted or not any(it.is_alive() for it in threads))
         world.journal.rename(world.folder / f"journal-202602{turns:04d}")
         world.gate.send_signal(signal.SIGHUP)
-        while not world.journal.exists():
-            time.sleep(0.005)
+        judge("the gate goes on in a new file", until(world.journal.exists))
+        turns += 1
     for it in threads:
         it.join()
-    same("each was answered", seen, {("read", 200): 4 * EACH, ("act", 200): 2 * EACH, ("file", 200): 2 * EACH})
+    judge("each was answered, and there were enough of each kind", seen.keys() == {("read", 200), ("act", 200), ("file", 200)}
+          and seen["read", 200] >= 4 * EACH and min(seen.values()) >= 2 * EACH, seen)
     world.stop_gate()
     status, said = check(world.journal)
-    judge(f"the chain holds over {turns} rotations", status == 0 and "from line 1," in said and turns > 2, (turns, said))
+    judge(f"the chain holds over {turns} rotations", status == 0 and "from line 1," in said and turns >= LEAST_TURNS,
+          (turns, said))
     lines = [it for place in [*world.folder.glob("journal-202602*"), world.journal] for it in whole_in(place)]
     count = Counter(it["request"].split("/")[1] for it in lines if it["what"] in ("asked", "read"))
-    same("lines of readings and acts", (count["records"], count["acts"]), (4 * EACH, 4 * EACH))
+    same("lines of readings and acts", (count["records"], count["acts"]),
+         (seen["read", 200], seen["act", 200] + seen["file", 200]))
 
 
 def alone(world: World) -> None:
@@ -280,13 +289,13 @@ def cut_again(world: World) -> None:
 
 def other_settings(world: World) -> None:
     """Other settings on a full disk: the journal has them before anything that is decided by them."""
+    # the gate's log is shorter than the journal, so that the disk still takes its lines
+    while world.journal.stat().st_size < (world.folder / "log").stat().st_size + 10_000:
+        world.act("legal", {"act": "lift-hold", "hold": "NONE" * 20})
     at_most(world, world.journal.stat().st_size)
     world.settings.write_text("site https://localhost\nzone UTC\n" + SETTINGS + "name extra is auditor\n")
     world.gate.send_signal(signal.SIGHUP)
-    for _ in range(500):
-        if "new settings" in (world.folder / "log").read_text():
-            break
-        time.sleep(0.01)
+    judge("the gate reads other settings", world.prints("new settings"))
     same("while the disk is full", world.ask("extra", "GET", "/records/1")[0], 503)
     at_most(world, resource.RLIM_INFINITY)
     same("with room they count", world.ask("extra", "GET", "/records/1")[0], 200)

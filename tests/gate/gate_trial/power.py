@@ -50,9 +50,9 @@ def tried(folder: pathlib.Path) -> None:
     alone(client)
     files(client)
     together(client, "A")
-    turned(world, "journal-20260101")
+    turned(client, "journal-20260101")
     together(client, "B")
-    turned(world, "journal-20260102", creates=True)
+    turned(client, "journal-20260102", creates=True)
     together(client, "C")
     seen = Seen(world, world.calls())
     same("each request that was sent has one line", seen.faults(), [])
@@ -102,7 +102,7 @@ def promised(seen: Seen) -> list[Promise]:
 
 def moments(disk: Disk) -> list[int]:
     """Lists the moments before each sync of the journal, at which the most is not on the disk, and the end."""
-    syncs = {begins for it in [*disk.files(), disk.journal] for begins, _ in it.syncs}
+    syncs = {begins for syncs in [disk.journal.syncs, *(it.syncs for it in disk.files())] for begins, _ in syncs}
     ends = {place for it in disk.files() for place, _, _ in it.changes}
     return sorted(syncs) + [max(ends | syncs) + 1]
 

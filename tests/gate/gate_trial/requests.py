@@ -1,10 +1,9 @@
 """Requests that two readers could take for others: cut, smuggled, doubled; and those that do not come through nginx."""
 import pathlib
-import time
 
 from gate_trial.base import made
 from gate_trial.judging import judge, same
-from gate_trial.world import HERE, TOKEN, World, parted, said
+from gate_trial.world import HERE, TOKEN, World, parted, said, until
 
 BODY = b'[{"act":"lift-hold","day":"2001-01-01","hold":"H"}]'
 SMUGGLED = b"POST /acts HTTP/1.1\r\nHost: localhost\r\nContent-Length: 2\r\n\r\n[]"
@@ -36,12 +35,8 @@ def wanted(world: World, what: str, data: bytes, *statuses: int, half: bool = Fa
     count = len(world.lines())
     status, body = parted(world.raw(data, half, later))
     judge(f"{what}: {statuses}", status in statuses, (status, body))
+    until(lambda: world.lines()[count:])
     lines = world.lines()[count:]
-    for _ in range(100):
-        if lines:
-            break
-        time.sleep(0.02)
-        lines = world.lines()[count:]
     judge(f"{what}: it is in the journal", [it["what"] for it in lines] == ["refused"], lines)
     return said(body)
 

@@ -4,7 +4,6 @@ import pathlib
 import signal
 import subprocess
 import threading
-import time
 
 from gate_trial.base import CITY, SETTINGS, made
 from gate_trial.judging import judge, same
@@ -122,7 +121,7 @@ def changed(world: World) -> None:
     world.settings.write_text("rule nothing\n")
     count = len(world.lines())
     world.gate.send_signal(signal.SIGHUP)
-    time.sleep(0.5)
+    judge("the service says that a file is wrong", world.prints("the settings stay as they were"))
     same("with a wrong file all stays", world.ask("registry", "GET", "/records/1")[0], 200)
     judge("the journal says nothing of it", all(it["what"] != "settings" for it in world.lines()[count:]))
     judge("but the service does, with its line", f"{world.settings}:1: " in (world.folder / "log").read_text())

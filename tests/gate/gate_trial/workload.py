@@ -8,6 +8,7 @@ import signal
 import socket
 import time
 from collections.abc import Iterator
+from typing import Any
 
 from gate_trial.answers import Stand
 from gate_trial.base import ROLES, filing, plan
@@ -24,11 +25,11 @@ SECONDS = 60
 """what the gate takes at most to go on in another file"""
 
 
-def placing(code: str) -> dict:
+def placing(code: str) -> dict[str, Any]:
     return {"act": "place-hold", "code": code, "reason": f"reason of {code}"}
 
 
-def confirming(record: int) -> dict:
+def confirming(record: int) -> dict[str, Any]:
     return {"act": "confirm", "record": record, "action": "destroy"}
 
 
@@ -41,7 +42,7 @@ class Client:
     def lines(self, name: str, more: dict[str, str]) -> dict[str, str]:
         return {**HERE, "Office-Token": TOKEN, "Office-Name": name, "Office-From": "192.0.2.7", **more}
 
-    def acts(self, name: str, *acts: dict) -> bytes:
+    def acts(self, name: str, *acts: dict[str, Any]) -> bytes:
         """Writes a request with a list of acts."""
         given = [{"day": today(), **it} if it["act"] != "run-step" else it for it in acts]
         return self.request(name, "POST", "/acts", json.dumps(given).encode())
@@ -137,8 +138,13 @@ def together(client: Client, mark: str) -> None:
     client.at_once({200: len(acts) + len(readings), 403: len(refusals), 204: len(puts)}, readings + acts + puts + refusals)
 
 
-def turned(world: Traced, name: str = "", creates: bool = False) -> None:
-    """Rotates the journal, as logrotate does with `create` or without; without a name it stays as it is."""
+def turned(client: Client, name: str = "", creates: bool = False) -> None:
+    """Rotates the journal, as logrotate does with `create` or without; without a name it stays as it is.
+
+    The last line before that is of a reading, which need not be on the disk.
+    """
+    client.one(200, client.request("auditor", "GET", "/records/3"))
+    world = client.world
     count = head_count(world)
     world.turns.append((name, creates))
     if name:

@@ -8,6 +8,7 @@ import signal
 import socket
 import subprocess
 import time
+from collections.abc import Callable
 from typing import Any
 
 TOP = pathlib.Path(__file__).resolve().parents[3]
@@ -25,6 +26,10 @@ STARTED: list[subprocess.Popen[Any]] = []
 """what the trial started, to end it however the trial ends"""
 LEADERS: set[int] = set()
 """which of these have a process group of their own"""
+BEGAN = [time.time()]
+"""when the part began"""
+WAIT_SECONDS = 60
+"""what a machine under load takes at most for what takes a moment"""
 END_SECONDS = 10
 """what a program takes at most to end by SIGTERM"""
 PORTS: set[int] = set()
@@ -61,8 +66,24 @@ def end_all() -> None:
     LEADERS.clear()
 
 
+def begin_part() -> None:
+    """Notes the moment at which a part begins."""
+    BEGAN[0] = time.time()
+
+
 def today(days: int = 0) -> str:
-    return time.strftime("%Y-%m-%d", time.gmtime(time.time() + 86400 * days))
+    """Returns the day on which the part began, or one so many days later: midnight may pass while it runs."""
+    return time.strftime("%Y-%m-%d", time.gmtime(BEGAN[0] + 86400 * days))
+
+
+def until(holds: Callable[[], object], seconds: float = WAIT_SECONDS) -> bool:
+    """Waits until something holds, and reports whether it does before the time is over."""
+    ends = time.monotonic() + seconds
+    while not holds():
+        if time.monotonic() > ends:
+            return False
+        time.sleep(0.01)
+    return True
 
 
 def free_port() -> int:
@@ -148,11 +169,12 @@ class World:
         self.settings.write_text(SITE.format(zone=zone) + settings)
         count = len(self.lines())
         self.gate.send_signal(signal.SIGHUP)
-        for _ in range(200):
-            if any(it["what"] == "settings" for it in self.lines()[count:]):
-                return
-            time.sleep(0.01)
-        raise AssertionError("the settings were not taken")
+        if not until(lambda: any(it["what"] == "settings" for it in self.lines()[count:])):
+            raise AssertionError("the settings were not taken")
+
+    def prints(self, text: str) -> bool:
+        """Waits until the gate printed something."""
+        return until(lambda: text in (self.folder / "log").read_text())
 
     def end(self) -> None:
         if self.gate:
