@@ -29,6 +29,12 @@ def is_there(name: str) -> bool:
     return os.path.exists(name) if "/" in name else shutil.which(name) is not None
 
 
+def can_make_spaces() -> bool:
+    """Whether a process may get a network, mounts and processes of its own here."""
+    return is_there(SPACE[0]) and subprocess.run(SPACE, stdin=subprocess.DEVNULL, capture_output=True,
+                                                 check=False).returncode == 0
+
+
 def lacking(commands: Mapping[str, str] = {}, modules: Mapping[str, str] = {}, root: bool = False,
             spaces: bool = False) -> str:
     """Returns what this machine lacks, or an empty text.
@@ -42,7 +48,7 @@ def lacking(commands: Mapping[str, str] = {}, modules: Mapping[str, str] = {}, r
     absent |= {name: package for name, package in modules.items() if importlib.util.find_spec(name) is None}
     if absent:
         return f"missing here: {', '.join(sorted(absent))} (apt-get install {' '.join(sorted(set(absent.values())))})"
-    if spaces and subprocess.run(SPACE, stdin=subprocess.DEVNULL, capture_output=True, check=False).returncode:
+    if spaces and not can_make_spaces():
         return "no namespaces can be made here"
     return ""
 

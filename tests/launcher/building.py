@@ -22,8 +22,9 @@ __all__ = ["help_of_program", "judge_build", "judge_help", "judge_lacks", "judge
 
 
 def help_of_program(*words: str) -> str:
-    """What the program that is tried prints itself."""
-    done = subprocess.run([PROGRAM, "help", *words], stdin=subprocess.DEVNULL, stderr=subprocess.PIPE, check=False)
+    """What the program that is tried prints itself, by the name that it has where it is built."""
+    done = subprocess.run(["office", "help", *words], executable=PROGRAM, stdin=subprocess.DEVNULL, stderr=subprocess.PIPE,
+                          check=False)
     return done.stderr.decode()
 
 

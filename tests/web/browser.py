@@ -19,8 +19,8 @@ window.fetch = async (...words) => {
   return there(...words);
 };
 """
-# a program that is compiled with checks takes half a minute for a MiB of contents
-WAIT = 300
+# a program that is compiled with checks takes half a minute for a MiB of contents, and ten on a busy machine
+WAIT = 900
 
 
 # how often it is tried to start Chromium, whose driver gives up after a minute

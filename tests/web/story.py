@@ -383,7 +383,7 @@ class Story:
         self.proxy.stop()
         self.office.process.send_signal(18)
         it.settled()
-        says("an answer that is lost is told as unknown", it.seen("#due-answer"), "no answer", TEXTS["due"]["lost"], TEXTS["due"]["stale"])
+        self.success("an answer that is lost is told as unknown", "#due-answer", TEXTS["said"]["nothing"], TEXTS["due"]["lost"], TEXTS["due"]["stale"])
         self.proxy.start()
         time.sleep(3)
         judge("nothing was sent a second time by itself", self.posted() - sent <= 1)
