@@ -7,9 +7,10 @@ import socket
 import subprocess
 import time
 
-from service_place import OFFICE, SERVICE, comes
+from service_place import OFFICE, SERVICE
 from shared.offices import start
 from shared.ports import free_port
+from shared.waiting import comes
 
 SECONDS = 300
 

@@ -29,6 +29,7 @@ def run_parts(parts: Sequence[Part], arguments: Sequence[str], usage: str | None
 
 def run_part(name: str, part: Part) -> None:
     """Runs a part in a folder of its own, which goes with its end."""
+    print(f"{name}:", flush=True)
     with tempfile.TemporaryDirectory(prefix=f"{name}-", ignore_cleanup_errors=True) as folder:
         # a part may run something as another user there
         pathlib.Path(folder).chmod(0o755)
