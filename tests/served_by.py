@@ -7,12 +7,10 @@ import socket
 import subprocess
 import time
 
-from service_place import OFFICE, SERVICE
+from service_place import OFFICE, SECONDS, SERVICE
 from shared.offices import start
 from shared.ports import free_port
 from shared.waiting import comes
-
-SECONDS = 300
 
 
 def answer_of(port: int, request: bytes, pause: float = 0, half: bool = False) -> bytes:
