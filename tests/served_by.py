@@ -7,11 +7,10 @@ import socket
 import subprocess
 import time
 
-from service_place import OFFICE, SERVICE, comes
+from service_place import OFFICE, SECONDS, SERVICE
 from shared.offices import start
 from shared.ports import free_port
-
-SECONDS = 300
+from shared.waiting import comes
 
 
 def answer_of(port: int, request: bytes, pause: float = 0, half: bool = False) -> bytes:

@@ -8,9 +8,10 @@ import signal
 import subprocess
 import time
 
-from service_place import (FIRST, LAST, NOBODY, OFFICE, RECORDS, SERVICE, Served, apply, comes, made, path_with, run,
+from service_place import (FIRST, LAST, NOBODY, OFFICE, RECORDS, SERVICE, Served, apply, made, path_with, run,
                            run_acts, script)
 from shared.judging import judge
+from shared.waiting import comes
 
 # the columns of the details, in their order
 DETAILS = ("originated", "added", "class", "schedule", "length", "due", "held")

@@ -7,9 +7,10 @@ import shutil
 import subprocess
 import time
 
-from service_place import (NOBODY, OFFICE, SECONDS, SERVICE, Served, comes, counted, made, mode_of, next_second,
-                           path_with, run, script, text_of)
+from service_place import (NOBODY, OFFICE, SECONDS, SERVICE, Served, counted, made, mode_of, path_with, run, script,
+                           text_of)
 from shared.judging import judge
+from shared.waiting import comes, next_second
 
 
 def ends(folder: pathlib.Path) -> None:

@@ -6,19 +6,16 @@ import os
 import pathlib
 import re
 import subprocess
-import time
-from collections.abc import Callable
 
-from shared.commands import OFFICE, TOP
+from shared.commands import OFFICE, SECONDS, TOP
 from shared.offices import Office
+from shared.waiting import comes
 
 HERE = TOP / "tests"
 SERVICE = TOP / "service"
 NOBODY = 65534
 FIRST, LAST = "2024-01-02", "2025-01-02"
 RECORDS = 20
-SECONDS = 600
-"""a command or an event that takes longer does not come, however busy the machine is"""
 
 
 def run(*words: object, user: int | None = None, umask: int = 0o022, **env: str) -> tuple[int, str, str]:
@@ -91,20 +88,6 @@ class Served(Office):
     def is_paused(self, wanted: bool) -> bool:
         """Waits until it is paused, or until it goes on, and returns whether that came."""
         return comes(lambda: (self.state() == "T") == wanted)
-
-
-def comes(event: Callable[[], object]) -> bool:
-    """Waits for an event, and returns whether it came."""
-    until = time.monotonic() + SECONDS
-    while not event() and time.monotonic() < until:
-        time.sleep(0.01)
-    return bool(event())
-
-
-def next_second() -> None:
-    """Waits until the clock shows another second: a name that has the second in it is not given twice."""
-    second = int(time.time())
-    comes(lambda: int(time.time()) != second)
 
 
 def mode_of(file: pathlib.Path) -> tuple[str, int]:

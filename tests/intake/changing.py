@@ -2,10 +2,11 @@
 from __future__ import annotations
 
 import datetime
-import os
 import pathlib
 import time
 from collections.abc import Callable
+
+from shared.waiting import comes
 
 
 def written(folder: pathlib.Path, take: Callable[..., tuple[int, str, str]], records: Callable[[], list[dict]],
@@ -27,9 +28,9 @@ def written(folder: pathlib.Path, take: Callable[..., tuple[int, str, str]], rec
         # as long as no machine is busy: the writer's pause is never taken for its end
         status, _, said = take(place, "--settle", "3600")
         same("while it is written both files are left out", (status, said.count("it is still changing"), records()), (1, 2, []))
-    for each in (half, whole):
-        os.utime(each, (time.time() - 7200,) * 2)
-    same("an hour after its last change a document is filed", take(place, "--settle", "3600")[0], 0)
+    same("the last change is a second ago", comes(lambda: time.time() > half.stat().st_ctime + 1), True)
+    status, _, said = take(place, "--settle", "1")
+    same("so long after its last change a document is filed", (status, said.count("left out: ")), (0, 0))
     same("a document whose writer paused is filed whole, and the file beside it too", {it["ref"]: it["length"] for it in records()},
          {"BP/half.pdf": sum(map(len, parts)), "BP/whole.txt": 5})
     same("and the next call says that all is there", (take(place, "--settle", "0")[0], len(records())), (0, 2))

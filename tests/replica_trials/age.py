@@ -12,9 +12,12 @@ from replica_trials.cluster import FAULTS, Cluster, Reply, ask
 from replica_trials.judging import judge
 from replica_trials.posting import begun, get, post, posted, record
 from replica_trials.verdict import same_rows
+from shared.waiting import comes
 
 LIMIT = 30
 """the usual value of `age_limit` and of `reading_limit`"""
+LIMIT_HERE = 4
+"""its value for a slow reading"""
 
 
 def age_of(reply: Reply) -> int:
@@ -94,7 +97,7 @@ def seen(cluster: Cluster) -> None:
 
 def slow_reading(cluster: Cluster) -> None:
     """An office that answers a reading slowly, while entries come: the reading is not older than the limit."""
-    cluster.settings.update(age_limit=4)
+    cluster.settings.update(age_limit=LIMIT_HERE)
     begun(cluster)
     cluster.wait_for(2, cluster.position(0))
     office, replies = cluster.office_process(2), []
@@ -106,7 +109,9 @@ def slow_reading(cluster: Cluster) -> None:
     reader.start()
     time.sleep(1)
     posted(cluster, 0, [record(5)])
-    time.sleep(8)
+    # what the reading shows is older than the limit once the member is
+    is_old = comes(lambda: LIMIT_HERE + 1 < age_of(ask(cluster.place(2), "GET", "/replica")) < 10**9, 60)
+    judge("slow reading: the member is behind while its office answers nothing", is_old)
     os.kill(office, signal.SIGCONT)
     reader.join(60)
     judge("slow reading: what would be older than the limit once it is answered is 503 behind",

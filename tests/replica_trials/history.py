@@ -14,6 +14,8 @@ from replica_trials.verdict import same_rows
 
 SECRET = b"a content that a run destroys, and that nobody is to read afterwards"
 REPORTED_SECONDS = 2
+COMPACTED_SECONDS = 120
+SNAPSHOT_SECONDS = 6
 """until a member has reported its snapshots"""
 
 
@@ -29,6 +31,27 @@ def asked(cluster: Cluster, key: str, revision: int) -> list[str]:
     """What each etcd says of an earlier revision of a key."""
     told = [cluster.etcdctl(it, "get", f"--rev={revision}", key) for it in range(3)]
     return [it.stdout + it.stderr for it in told]
+
+
+def until_compacted(cluster: Cluster, key: str, revision: int) -> list[str]:
+    """What each etcd says of an earlier revision of a key, as soon as none has it; as they say it in the end if one has."""
+    replies = asked(cluster, key, revision)
+    until = time.monotonic() + COMPACTED_SECONDS
+    while not all("compacted" in it and key not in it for it in replies) and time.monotonic() < until:
+        time.sleep(0.3)
+        replies = asked(cluster, key, revision)
+    return replies
+
+
+def until_rest(cluster: Cluster, seconds: float) -> int:
+    """The number of entries that still come until none has come for as long, within two minutes."""
+    first = last = cluster.position(0)
+    since = began = time.monotonic()
+    while time.monotonic() - since < seconds and time.monotonic() - began < 120:
+        time.sleep(0.3)
+        if cluster.position(0) != last:
+            last, since = cluster.position(0), time.monotonic()
+    return last - first
 
 
 def until_dropped(cluster: Cluster, key: str, seconds: float) -> float:
@@ -50,8 +73,7 @@ def history(cluster: Cluster) -> None:
             cluster.wait_for(machine, cluster.position(0))
             cluster.make_snapshot(machine)
     took = until_dropped(cluster, key, 120)
-    time.sleep(2)
-    said = asked(cluster, key, revision)
+    said = until_compacted(cluster, key, revision)
     judge("history: after two snapshots of each member no etcd gives it at any revision",
           took < 120 and all("compacted" in it and key not in it for it in said), said)
     same_rows(cluster, "history")
@@ -71,8 +93,7 @@ def dropped(cluster: Cluster) -> None:
     judge("dropped: etcd has the entry at its revision", all(key in it for it in asked(cluster, key, revision)))
     cluster.start_member(1)
     cluster.wait_for(1, position)
-    time.sleep(REPORTED_SECONDS)
-    said = asked(cluster, key, revision)
+    said = until_compacted(cluster, key, revision)
     judge("dropped: once a member has started, no etcd gives it at any revision",
           all("compacted" in it and key not in it for it in said), said)
     for machine in (0, 2):
@@ -132,16 +153,13 @@ def other_body(cluster: Cluster) -> None:
 
 def at_rest(cluster: Cluster) -> None:
     """An office in which nothing is done any more: its members make the snapshots that are owed by themselves."""
-    cluster.settings.update(snapshot_seconds=6)
+    cluster.settings.update(snapshot_seconds=SNAPSHOT_SECONDS)
     begun(cluster)
     key, revision = filed(cluster)
     took = until_dropped(cluster, key, 300)
-    time.sleep(2)
-    said = asked(cluster, key, revision)
+    said = until_compacted(cluster, key, revision)
     judge("at rest: the log is dropped though nobody does anything, and no etcd gives it at any revision",
           took < 300 and all("compacted" in it and key not in it for it in said), (took, said))
-    tail = cluster.position(0)
-    time.sleep(20)
-    more = cluster.position(0) - tail
-    judge("at rest: entries of no acts come to an end", more <= 6, f"{more} more in 20 s", always=True)
+    more = until_rest(cluster, 2 * SNAPSHOT_SECONDS)
+    judge("at rest: entries of no acts come to an end", more <= 6, f"{more} more", always=True)
     same_rows(cluster, "at rest")

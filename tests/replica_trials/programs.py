@@ -15,6 +15,7 @@ from replica_trials.cluster import OFFICE, REPLICAS, Cluster, ask
 from replica_trials.judging import judge
 from replica_trials.posting import begun, get, halts, post, posted, record
 from replica_trials.verdict import same_rows
+from shared.waiting import comes
 
 SLOW_SECONDS = 20
 
@@ -85,7 +86,7 @@ def replaced(cluster: Cluster) -> None:
     assert office is not None
     cluster.signal("member2", signal.SIGSTOP)
     os.kill(office, signal.SIGKILL)
-    time.sleep(1)
+    comes(lambda: "\nState:\tZ" in pathlib.Path(f"/proc/{office}/status").read_text())
     with open(mine, "ab") as file:
         file.write(b"\n# written over\n")
     cluster.signal("member2", signal.SIGCONT)

@@ -12,9 +12,12 @@ from replica_trials.cluster import REPLICAS, Cluster
 from replica_trials.judging import judge
 from replica_trials.posting import begun, posted, record
 from replica_trials.verdict import same_rows
+from shared.waiting import comes
 
 IDLE_SECONDS = 4
 """a member settles after one without entries"""
+SETTLED_SECONDS = 60
+"""and later on a busy machine"""
 NAMES = {"memo.db-wal": "memo", "office.db-wal": "log", "office.db": "FILE", "work": "folder"}
 
 
@@ -30,10 +33,10 @@ def traced(cluster: Cluster, machine: int, number: int) -> list[str]:
     process = cluster.processes[f"member{machine}"].pid
     tracer = subprocess.Popen(["strace", "-f", "-y", "-e", "trace=fsync,fdatasync", "-o", str(file), "-p", str(process)],
                               stderr=subprocess.DEVNULL)
-    time.sleep(2)
+    comes(lambda: "\nTracerPid:\t0\n" not in pathlib.Path(f"/proc/{process}/status").read_text())
     for it in range(5):
         posted(cluster, machine, [record(number + it)])
-    time.sleep(IDLE_SECONDS)
+    comes(lambda: syncs(file.read_text(errors="replace"))[-3:] == ["FILE", "folder", "memo"], SETTLED_SECONDS)
     tracer.send_signal(signal.SIGINT)
     tracer.wait(30)
     return syncs(file.read_text(errors="replace"))
@@ -46,7 +49,7 @@ def traced_start(cluster: Cluster, machine: int) -> tuple[str, str]:
     cluster.start(name, machine, ["strace", "-D", "-f", "-y", "-e", "trace=fsync,fdatasync,syncfs,rename", "-o", str(file),
                                   sys.executable, str(REPLICAS / "member"), str(cluster.home(machine) / "settings.json")])
     cluster.wait_for(machine, cluster.position(1))
-    time.sleep(IDLE_SECONDS)
+    comes(lambda: syncs(file.read_text(errors="replace"))[-3:] == ["FILE", "folder", "memo"], SETTLED_SECONDS)
     before = file.read_text(errors="replace")
     posted(cluster, machine, [record(90)])
     cluster.make_snapshot(machine)

@@ -5,6 +5,7 @@ import pathlib
 import signal
 import sys
 import tempfile
+import time
 from collections.abc import Callable, Sequence
 from typing import NoReturn
 
@@ -29,10 +30,13 @@ def run_parts(parts: Sequence[Part], arguments: Sequence[str], usage: str | None
 
 def run_part(name: str, part: Part) -> None:
     """Runs a part in a folder of its own, which goes with its end."""
+    print(f"{name}:", flush=True)
+    began = time.monotonic()
     with tempfile.TemporaryDirectory(prefix=f"{name}-", ignore_cleanup_errors=True) as folder:
         # a part may run something as another user there
         pathlib.Path(folder).chmod(0o755)
         goes_on(part, pathlib.Path(folder), name=name)
+    print(f"{name}: {time.monotonic() - began:.0f} seconds", flush=True)
 
 
 def judge_stop() -> None:

@@ -4,7 +4,6 @@ import pathlib
 import subprocess
 import threading
 
-from place import free_port
 
 CONFIG = """
 [tsa]
@@ -74,9 +73,8 @@ class Authority:
             def log_message(self, *_: object) -> None:
                 pass
 
-        port = free_port()
-        self.url = f"http://127.0.0.1:{port}/"
-        self.server = http.server.ThreadingHTTPServer(("127.0.0.1", port), Handler)
+        self.server = http.server.ThreadingHTTPServer(("127.0.0.1", 0), Handler)
+        self.url = f"http://127.0.0.1:{self.server.server_address[1]}/"
         threading.Thread(target=self.server.serve_forever, daemon=True).start()
         return self
 

@@ -9,7 +9,7 @@ from collections.abc import Callable
 import csip
 import reader
 from fake import Fake, digest
-from judging import judge
+from shared.judging import judge
 from place import TOOLS, Done, challenge_of, files_in, run
 
 LONG = "ü" * 100
@@ -53,7 +53,7 @@ def odd(folder: pathlib.Path) -> None:
         entries = [fake.record(at, ref, title, f"content {at}\n".encode()) for at, (ref, title) in enumerate(every, 1)]
         fake.close(1, entries)
         done = transfer(fake, folder / "odd")
-        judge("a bag of odd refs and titles is made", (done.status, done.err) == (0, ""), done)
+        judge("a bag of odd refs and titles is made", (done.status, done.error) == (0, ""), done)
         judge("an independent reader finds nothing wrong", reader.problems_of(str(folder / "odd")) == [],
               reader.problems_of(str(folder / "odd")))
         judge("sha256sum finds nothing wrong", sums_agree(folder / "odd"))
@@ -66,7 +66,7 @@ def odd(folder: pathlib.Path) -> None:
               {(it["aggregation"], it["aggregation_ref"], it["aggregation_title"]) for it in table}
               == {("3", "MAP/1993", "Maps of 1993")})
         done = transfer(fake, folder / "odd-package", "--form", "eark", "--sender", "Town <of> \"Alderquay\" & Quay")
-        judge("a package of them is made", (done.status, done.err) == (0, ""), done)
+        judge("a package of them is made", (done.status, done.error) == (0, ""), done)
         found = csip.problems_of(str(folder / "odd-package"))
         judge("an independent reader finds nothing wrong with the package", found == [], found)
         judge("both forms have the same contents", sorted((folder / "odd/data").rglob("*.txt"), key=lambda it: it.name)
@@ -110,7 +110,7 @@ def again(folder: pathlib.Path) -> None:
         judge("a second package is the same", (one.status, two.status) == (0, 0) and "the same" in two.out, (one, two))
         (folder / "two/data/000001_A_One.txt").write_bytes(b"ONE")
         changed = transfer(fake, folder / "two")
-        judge("another bag in the place is left as it is", changed.status == 1 and "000001_A_One.txt" in changed.err
+        judge("another bag in the place is left as it is", changed.status == 1 and "000001_A_One.txt" in changed.error
               and (folder / "two/data/000001_A_One.txt").read_bytes() == b"ONE", changed)
         (folder / "file").write_text("mine")
         (folder / "link").symlink_to("elsewhere")
@@ -136,7 +136,7 @@ def gone(folder: pathlib.Path) -> None:
                          "/records/2/files/3": (503, b'{"error":"object"}')}
         done = transfer(fake, folder / "gone")
         judge("what is gone makes the status 1, and is named", done.status == 1
-              and "record 1, A: transferred by run 2" in done.err and "record 2, B, file 3: the vault lacks it" in done.err,
+              and "record 1, A: transferred by run 2" in done.error and "record 2, B, file 3: the vault lacks it" in done.error,
               done)
         judge("the rest is a whole bag", reader.problems_of(str(folder / "gone")) == [] and sums_agree(folder / "gone"),
               reader.problems_of(str(folder / "gone")))
@@ -155,7 +155,7 @@ def gone(folder: pathlib.Path) -> None:
         fake.close(1, entries[:1])
         done = transfer(fake, folder / "none")
         judge("of nothing there is no bag", done.status == 1 and not (folder / "none").exists()
-              and "transferred by run 2" in done.err, done)
+              and "transferred by run 2" in done.error, done)
 
 
 def site(folder: pathlib.Path) -> None:
@@ -174,8 +174,8 @@ def site(folder: pathlib.Path) -> None:
         for name, those in (("without a password", words[:2]), ("with another password", (*words[:3], folder / "no")),
                             ("from a site that nobody vouches for", words[2:])):
             done = transfer(fake, folder / "other", *those)
-            judge(f"{name}: no bag, and a sentence", done.status == 3 and "Traceback" not in done.err
-                  and not (folder / "other").exists() and "a long" not in done.err, done)
+            judge(f"{name}: no bag, and a sentence", done.status == 3 and "Traceback" not in done.error
+                  and not (folder / "other").exists() and "a long" not in done.error, done)
     plain(folder)
 
 
@@ -184,11 +184,11 @@ def plain(folder: pathlib.Path) -> None:
     words = (TOOLS / "transfer", "1", folder / "plain", "--login", folder / "login", "--office")
     for address in ("http://192.0.2.1", "http://office.example:8081/city", "http://[2001:db8::1]"):
         done = run(*words, address)
-        judge(f"a password to {address}: nothing is sent", done.status == 2 and "without TLS" in done.err
-              and "a long" not in done.err, done)
+        judge(f"a password to {address}: nothing is sent", done.status == 2 and "without TLS" in done.error
+              and "a long" not in done.error, done)
     for address in ("http://127.0.0.1:1", "http://localhost:1", "http://[::1]:1"):
         done = run(*words, address)
-        judge(f"a password to {address} is this machine's own", done.status == 3 and "does not answer" in done.err, done)
+        judge(f"a password to {address} is this machine's own", done.status == 3 and "does not answer" in done.error, done)
     sys.path.insert(0, str(TOOLS))
     from asking.office import OverHttp
     for address, is_sent in (("http://192.0.2.1", False), ("http://office.example", False), ("https://192.0.2.1", True),
@@ -242,8 +242,8 @@ def wrong(folder: pathlib.Path) -> None:
             fake.close(1, [fake.record(1, "A", "One", b"one")])
             change()
             done = transfer(fake, folder / "wrong")
-            judge(f"{name}: no bag, and a sentence", done.status in (1, 3) and done.err.startswith("transfer: ")
-                  and "Traceback" not in done.err and not list(folder.iterdir()), done)
+            judge(f"{name}: no bag, and a sentence", done.status in (1, 3) and done.error.startswith("transfer: ")
+                  and "Traceback" not in done.error and not list(folder.iterdir()), done)
     for words, status in ((("0", "x"), 2), (("1",), 2), (("--office", "ftp://x", "1", "x"), 2),
                           (("--office", "http://127.0.0.1:1", "1", folder / "x"), 3), (("1", folder / "no/x"), 3)):
         done = run(TOOLS / "transfer", *words)

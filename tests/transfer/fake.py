@@ -10,7 +10,6 @@ import time
 import urllib.parse
 from dataclasses import dataclass, field
 
-from place import free_port
 
 
 def digest(data: bytes) -> str:
@@ -73,8 +72,8 @@ class Fake:
             def log_message(self, *_: object) -> None:
                 pass
 
-        port = free_port()
-        self.server = http.server.ThreadingHTTPServer(("127.0.0.1", port), Handler)
+        self.server = http.server.ThreadingHTTPServer(("127.0.0.1", 0), Handler)
+        port = self.server.server_address[1]
         self.server.daemon_threads = True
         if self.tls:
             context = ssl.SSLContext(ssl.PROTOCOL_TLS_SERVER)

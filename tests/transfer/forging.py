@@ -6,7 +6,7 @@ import shutil
 
 import authority
 from fake import Fake, digest
-from judging import judge
+from shared.judging import judge
 from place import run
 from sealing import SEAL, Place, seals_of
 
@@ -221,7 +221,7 @@ def lost(folder: pathlib.Path) -> None:
         place.fetch()
         aside = place.key.rename(place.folder / "aside")
         done = place.sign()
-        judge("without a key no first seal is made", done.status == 2 and "there is no key" in done.err, done)
+        judge("without a key no first seal is made", done.status == 2 and "there is no key" in done.error, done)
         aside.rename(place.key)
         place.sign()
         place.key.rename(aside)
@@ -229,7 +229,7 @@ def lost(folder: pathlib.Path) -> None:
             place.key.write_text(text) if text else None
             done = place.sign()
             judge(f"an office that has seals and {name} for a key fails, and says where to read on", done.status == 2
-                  and "the key is lost, and nothing follows seal 1: EVIDENCE.md, Keys" in done.err, done)
+                  and "the key is lost, and nothing follows seal 1: EVIDENCE.md, Keys" in done.error, done)
         aside.rename(place.key)
         place.close(2)
         judge("a new certificate may wait for its seal", place.fetch(seals=place.seals).out == "certificates: 1\n")
@@ -237,14 +237,14 @@ def lost(folder: pathlib.Path) -> None:
         os.utime(place.certificates / "certificate-2.txt", (old, old))
         done = place.fetch(seals=place.seals)
         judge("one that waits for more than a day is reported", done.status == 1
-              and "certificate 2 is here for more than a day and has no seal (1 in all)" in done.err, done)
+              and "certificate 2 is here for more than a day and has no seal (1 in all)" in done.error, done)
         judge("not in an office that never sealed", place.fetch(seals=place.folder / "nowhere").status == 0)
         judge("nor once it is sealed", place.sign().out == "seals: 1\n" and place.fetch(seals=place.seals).status == 0)
         place.close(3)
         place.fetch()
         words = (SEAL, "sign", "--name", "city", "--key", place.key, place.certificates, place.seals)
         done = run("faketime", "-f", "-2 days", *words)
-        judge("a clock that went back seals nothing", done.status == 3 and "set the clock" in done.err
+        judge("a clock that went back seals nothing", done.status == 3 and "set the clock" in done.error
               and len(seals_of(place)) == 2, done)
         done = run("faketime", "-f", "-2 days", *words, "--clock-was-wrong")
         seen = place.verify()

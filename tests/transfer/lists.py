@@ -6,7 +6,7 @@ from collections.abc import Callable
 
 from bags import transfer
 from fake import Fake, digest
-from judging import judge
+from shared.judging import judge
 from place import TOOLS, Done, challenge_of, run
 
 BIG, SCAN = b"big", b"scan"
@@ -78,7 +78,7 @@ def lists(folder: pathlib.Path) -> None:
     table = folder / "package/metadata/descriptive/records.csv"
     table.write_bytes(table.read_bytes().replace(b"One", b"Two"))
     _, done = receipts(folder / "package", plain)
-    judge("but not if its table was changed", (done.status, done.out) == (1, "") and "was changed" in done.err, done)
+    judge("but not if its table was changed", (done.status, done.out) == (1, "") and "was changed" in done.error, done)
     told(bag, content)
     refused(bag, content)
     changed(bag, plain, receipts)
@@ -101,18 +101,18 @@ def proofs(bag: pathlib.Path, files: dict[str, bytes]) -> None:
         for file in inside:
             found, done = receipts(folder, file.read_bytes())
             judge(f"{folder.name}: its own {file.relative_to(folder)} makes none", not found and done.status in (1, 2)
-                  and "Traceback" not in done.err, done)
+                  and "Traceback" not in done.error, done)
     other = challenge_of(bag.parent / "package")
     found, done = receipts(bag, "".join(f"{digest(other + data)}  {name}\n" for name, data in files.items()))
-    judge("the answer to another challenge makes none", (found, done.status) == ([], 1) and "differing: 6" in done.err, done)
+    judge("the answer to another challenge makes none", (found, done.status) == ([], 1) and "differing: 6" in done.error, done)
     data = bag / "data/000004_D_Four.txt"
     data.write_bytes(b"FOUR")
     found, done = receipts(bag, f"{digest(challenge_of(bag) + b'FOUR')}  data/000004_D_Four.txt\n")
-    judge("a file of the bag that was changed is no measure", (done.status, done.out) == (1, "") and "was changed" in done.err,
+    judge("a file of the bag that was changed is no measure", (done.status, done.out) == (1, "") and "was changed" in done.error,
           done)
     data.unlink()
     _, done = receipts(bag, f"{digest(challenge_of(bag) + b'four')}  data/000004_D_Four.txt\n")
-    judge("nor is one that is gone", (done.status, done.out) == (1, "") and "cannot be read" in done.err, done)
+    judge("nor is one that is gone", (done.status, done.out) == (1, "") and "cannot be read" in done.error, done)
     data.write_bytes(b"four")
 
 
@@ -128,9 +128,9 @@ def unproved(bag: pathlib.Path, files: dict[str, bytes]) -> None:
     for name, text in own.items():
         found, done = receipts(bag, text)
         judge(f"{name}: it has the plain sums, and makes no receipt", (done.status, done.out) == (1, "")
-              and "--without-proof" in done.err, done)
+              and "--without-proof" in done.error, done)
         found, done = receipts(bag, text, "--without-proof")
-        judge(f"{name}: not without a proof either", (done.status, done.out) == (1, "") and "folder itself" in done.err, done)
+        judge(f"{name}: not without a proof either", (done.status, done.out) == (1, "") and "folder itself" in done.error, done)
     lists_of_archives = {"a folder of the archive's": "".join(f"{it}  AIP-7/{name}\n" for name, it in sums.items()),
                          "names of the archive's own": "".join(f"{it}  x{at}\n" for at, it in enumerate(sums.values())),
                          "by ref": "ref,sha256\n" + "".join(f"{ref},{sums[name]}\n" for ref, name in (
@@ -138,7 +138,7 @@ def unproved(bag: pathlib.Path, files: dict[str, bytes]) -> None:
                              *(("B", it) for it in sums if "_B_" in it)))}
     for name, text in lists_of_archives.items():
         found, done = receipts(bag, text)
-        judge(f"{name}, plain sums: no receipt", (done.status, done.out) == (1, "") and "--without-proof" in done.err, done)
+        judge(f"{name}, plain sums: no receipt", (done.status, done.out) == (1, "") and "--without-proof" in done.error, done)
         found, done = receipts(bag, text, "--without-proof")
         judge(f"{name}, plain sums, and that is said: receipts", (found, done.status) == ([1, 2, 3, 4], 0), done)
 
@@ -150,9 +150,9 @@ def told(bag: pathlib.Path, content: str) -> None:
     for what in ("differs: record 1, A: data/000001_A_One.txt", "missing: record 3, C", "missing: record 2, B: data/",
                  "twice: record 4, D: data/000004_D_Four.txt: lines 2, 3", "not used: line 4, elsewhere.txt",
                  "not used: line 5 has no SHA-256"):
-        judge(f"named: {what}", what in done.err, done.err)
-    judge("and counted", "records: 4, receipts: 1, had one: 0, missing: 4, differing: 1, twice: 1, not used: 2" in done.err,
-          done.err)
+        judge(f"named: {what}", what in done.error, done.error)
+    judge("and counted", "records: 4, receipts: 1, had one: 0, missing: 4, differing: 1, twice: 1, not used: 2" in done.error,
+          done.error)
 
 
 def refused(bag: pathlib.Path, content: str) -> None:
@@ -166,7 +166,7 @@ def refused(bag: pathlib.Path, content: str) -> None:
         ("a name of 201 bytes", f"{content}  x\n", ("--by", "a" * 201)),
     ):
         found, done = receipts(bag, text, *words)
-        judge(f"{name}: status 2, and no act", (done.status, done.out) == (2, "") and "Traceback" not in done.err, done)
+        judge(f"{name}: status 2, and no act", (done.status, done.out) == (2, "") and "Traceback" not in done.error, done)
     done = run(TOOLS / "receipts", bag.parent, bag / "manifest-sha256.txt", "--by", "x")
     judge("a folder that is no bag: status 2", done.status == 2, done)
 
@@ -176,5 +176,5 @@ def changed(bag: pathlib.Path, plain: str, ask: Callable[..., tuple[list[int], D
     table = bag / "metadata/records.csv"
     table.write_bytes(table.read_bytes().replace(digest(b"four").encode(), b"0" * 64))
     _, done = ask(bag, plain)
-    judge("a table that was changed makes no receipt", (done.status, done.out) == (1, "") and "was changed" in done.err,
+    judge("a table that was changed makes no receipt", (done.status, done.out) == (1, "") and "was changed" in done.error,
           done)

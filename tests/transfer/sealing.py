@@ -9,7 +9,8 @@ from collections.abc import Callable
 
 import authority
 from fake import Fake, certificate, digest
-from judging import judge
+from shared.judging import judge
+from shared.waiting import next_second
 from place import SERVICE, TOOLS, Done, run
 
 SEAL, VERIFY = SERVICE / "office-seal", TOOLS / "verify"
@@ -133,7 +134,7 @@ def changes(place: Place) -> None:
          "the chain is broken")
     other = place.folder / "other"
     other.mkdir()
-    time.sleep(1.1)
+    next_second()
     run(SEAL, "sign", "--name", "city", "--key", place.key, place.certificates, other)
     told("a good seal of another chain", lambda: (shutil.rmtree(seal), shutil.copytree(other / "000002", seal), None)[2],
          "000002: the chain is broken: it does not follow the seal before it")
@@ -152,11 +153,11 @@ def of_the_office(place: Place, fake: Fake) -> None:
     body = good[1][:-72].replace(b"\tr3\t", b"\trX\t")
     fake.answers["/certificates/3"] = (200, body + f"SHA256 {digest(body)}\n".encode())
     done, seen = place.fetch(), place.verify("--office", fake.address)
-    judge("another certificate of a known number is not fetched", done.status == 1 and "another certificate 3" in done.err, done)
+    judge("another certificate of a known number is not fetched", done.status == 1 and "another certificate 3" in done.error, done)
     judge("the auditor sees it", seen.status == 1 and "certificate 3 of the office is not the sealed one" in seen.out, seen)
     (place.certificates / "certificate-3.txt").write_bytes(body)
     done = place.sign()
-    judge("nor is it sealed", done.status == 1 and "sealed with another text" in done.err, done)
+    judge("nor is it sealed", done.status == 1 and "sealed with another text" in done.error, done)
     (place.certificates / "certificate-3.txt").write_bytes(good[1])
     fake.answers.pop("/certificates/3")
     done = place.fetch()
@@ -258,14 +259,14 @@ def stamps(folder: pathlib.Path) -> None:
         for name, it in (("the authority", one), ("somebody on the way", other)):
             done = stamp(it.url)
             judge(f"nor a stamp of other bytes by {name}, though it has the nonce", done.status == 3
-                  and "is not kept" in done.err and not list(place.seals.rglob("*.tsr")), done)
+                  and "is not kept" in done.error and not list(place.seals.rglob("*.tsr")), done)
         one.forges = other.forges = False
         done = stamp(other.url)
         judge("nor a right one by somebody on the way", done.status == 3 and not list(place.seals.rglob("*.tsr")), done)
         for ca in ("", place.folder / "nowhere"):
             done = stamp(one.url, ca)
             judge("an office that was set up without STAMP_CA is told what is missing", done.status == 2
-                  and "STAMP_CA" in done.err and not list(place.seals.rglob("*.tsr")), done)
+                  and "STAMP_CA" in done.error and not list(place.seals.rglob("*.tsr")), done)
         place.close(3)
         judge("and it seals on", place.fetch().status == 0 and place.sign().out == "seals: 1\n")
         judge("an authority that is not there: status 3", stamp("http://127.0.0.1:1/").status == 3)

@@ -7,7 +7,7 @@ import time
 
 import reader
 from fake import Fake
-from judging import judge
+from shared.judging import judge
 from place import TOOLS, files_in, run
 
 KILLS = 40

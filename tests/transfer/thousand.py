@@ -14,8 +14,9 @@ import csip
 import reader
 from bags import ODD, rows, sums_agree
 from fake import digest
-from judging import judge
-from place import OFFICE, SERVICE, TOOLS, TOP, Served, challenge_of, files_in, run
+from shared.judging import judge
+from shared.offices import Office
+from place import OFFICE, SERVICE, TOOLS, TOP, challenge_of, files_in, run
 
 COUNT = 1000
 ADDED, DUE, SENT = "2020-01-02", "2020-01-03", "2020-02-02"
@@ -99,10 +100,10 @@ def thousand(folder: pathlib.Path) -> None:
     judge("a catalogue of it is made, with what waits", done.status == 0
           and (folder / "catalogue/now/awaiting.json.gz").is_file(), done)
     judge("a thousand wait", [int(it["record"]) for it in waiting(file)] == list(range(1, COUNT + 1)))
-    with Served(file) as office:
+    with Office(file) as office:
         words = (TOOLS / "transfer", "--office", office.address, "--catalogue", folder / "catalogue/now", 1)
         done = run(*words, bag)
-        judge("the bag of a real office is made", (done.status, done.err) == (0, ""), done)
+        judge("the bag of a real office is made", (done.status, done.error) == (0, ""), done)
         judge("an independent reader and sha256sum find nothing wrong", reader.problems_of(str(bag)) == []
               and sums_agree(bag), reader.problems_of(str(bag))[:5])
         table = rows(bag, "metadata/records.csv")
@@ -125,7 +126,7 @@ def thousand(folder: pathlib.Path) -> None:
           and {(it["sent"], it["run"]) for it in found} == {(SENT, "1")}, found[:3])
 
 
-def receipts(folder: pathlib.Path, bag: pathlib.Path, office: Served, words: tuple) -> None:
+def receipts(folder: pathlib.Path, bag: pathlib.Path, office: Office, words: tuple) -> None:
     """The archive's list becomes acts, the office takes each of them, and the same list again makes none."""
     text, lacking, wanted = archives_list(bag)
     (folder / "list").write_text(text)
@@ -134,8 +135,8 @@ def receipts(folder: pathlib.Path, bag: pathlib.Path, office: Served, words: tup
     acts = json.loads((folder / "acts.json").read_bytes())
     judge("each record that the archive has gets a receipt, and no other", done.status == 1
           and {it["record"] for it in acts} == wanted and len(acts) == len(wanted) == COUNT - len(lacking), done)
-    judge("what is missing or differs is named", all(f"record {it}," in done.err for it in lacking)
-          and "missing: 12, differing: 24, twice: 24, not used: 0" in done.err, done.err[-300:])
+    judge("what is missing or differs is named", all(f"record {it}," in done.error for it in lacking)
+          and "missing: 12, differing: 24, twice: 24, not used: 0" in done.error, done.error[-300:])
     check = next(it for it in (TOOLS / "check", TOP / "examples/acts/check") if it.exists())
     said = run(check, folder / "acts.json")
     judge("the checker of acts takes them", said.status == 0 and f"acts: {len(wanted)}, wrong: 0" in said.out, said)
@@ -147,7 +148,7 @@ def receipts(folder: pathlib.Path, bag: pathlib.Path, office: Served, words: tup
           (answer.status, [it for it in told if it != {"done": True}][:3]))
     done = run(*call, "--office", office.address)
     judge("the same list again makes none", json.loads((folder / "acts.json").read_bytes()) == []
-          and f"had one: {len(wanted)}" in done.err, done.err[-300:])
+          and f"had one: {len(wanted)}" in done.error, done.error[-300:])
     done = run(*words, bag)
     judge("the bag is still the same after the receipts", done.status == 0 and "the same" in done.out, done)
 

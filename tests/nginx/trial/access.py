@@ -6,8 +6,8 @@ import ssl
 import threading
 import time
 
+from shared.judging import judge, same
 from trial import place
-from trial.judging import judge, same
 from trial.place import HERE, ask, post, reach, run
 
 

@@ -6,8 +6,10 @@ import pathlib
 import stat
 import time
 
+from shared.judging import judge, same
+from shared.waiting import comes
 from trial import place
-from trial.judging import absent, judge, same
+from trial.judging import absent
 from trial.place import HERE, JOURNAL, ask, post, run
 
 SECRET = b"the secret of the content"
@@ -24,10 +26,7 @@ def lines() -> list[dict[str, object]]:
 
 def added(count: int, before: int) -> list[dict[str, object]]:
     """The lines since then; a line is written after its answer."""
-    for _ in range(50):
-        if len(lines()) >= before + count:
-            break
-        time.sleep(0.1)
+    comes(lambda: len(lines()) >= before + count, 60)
     return lines()[before:]
 
 
@@ -174,9 +173,10 @@ def left_out(folder: str) -> None:
     long = base64.b64encode(SECRET * 100).decode()
     body = json.dumps([{**RECORD, "ref": "r2", "content": long}]).encode()
     chunks = [body[at:at + 100] for at in range(0, 10_000, 100)]
+    before = len(lines())
     chunked = ask("POST", f"{folder}acts", (chunk for chunk in chunks if chunk), fields=HERE)
     same("a content in chunks is passed on", (chunked.status, chunked.body[:10]), (200, b'[{"number"'))
-    time.sleep(0.5)
+    added(1, before)
     logs = JOURNAL.read_text() + run("cat /var/log/nginx/*").stdout
     absent("no content is in a log", logs, [SECRET.decode(), str(RECORD["content"]), long[:60]])
 
@@ -201,8 +201,9 @@ def not_passed_on(folder: str) -> None:
     same("from elsewhere", ask("POST", f"{folder}acts", b"[]", fields={"Origin": "https://evil.example"}).status, 403)
     same("one who may only read", post(f"{folder}acts", [HOLD], "reader").status, 403)
     same("and a GET", ask("GET", f"{folder}due/2025-01-01").status, 200)
-    time.sleep(0.5)
-    same("make no line", len(lines()), before)
+    # the line of a request that came later
+    one(f"{folder}acts", [])
+    same("make no line", len(lines()), before + 1)
 
 
 def fails(folder: str, office: place.Office) -> None:
@@ -238,8 +239,7 @@ def rotated(folder: str) -> None:
     old = [it for it in JOURNAL.parent.iterdir() if it != JOURNAL]
     judge("the old one has all lines", len(old) == 1 and old[0].read_text() == before, old)
     post(f"{folder}acts", [HOLD])
-    time.sleep(0.5)
-    same("the next act is in the new one", len(lines()), 1)
+    same("the next act is in the new one", len(added(1, 0)), 1)
     attributes = [line.split()[0] for line in run(f"lsattr {JOURNAL} {old[0]}").stdout.splitlines()]
     same("both can only be appended to", ["a" in it for it in attributes], [True, True])
     protected()
@@ -253,17 +253,18 @@ def stuck(old: pathlib.Path) -> None:
     judge("if nginx does not open the new file, logrotate fails", done.returncode != 0, done.stdout)
     attributes = [line.split()[0] for line in run(f"lsattr {JOURNAL} {old}").stdout.splitlines()]
     same("and both can only be appended to", ["a" in it for it in attributes], [True, True])
-    run("mv -f /run/nginx.before /run/nginx.pid && nginx -s reopen && sleep 1")
+    run("mv -f /run/nginx.before /run/nginx.pid")
+    place.reopen()
 
 
 def full(folder: str, port: int) -> None:
     """A journal for which the disk has no room: the act is done, its line is cut, and the log of errors says so."""
     run(f"mount -t tmpfs -o size=8k tmpfs {JOURNAL.parent} && install -m 640 -o www-data -g adm /dev/null {JOURNAL}")
-    run("nginx -s reopen && sleep 1")
+    place.reopen()
     acts = [{**HOLD, "code": f"F-{number}"} for number in range(200)]
     with place.StandIn(port, b"[]"):
         same("without room for its line an act is done", post(f"{folder}acts", acts).status, 200)
-    time.sleep(0.5)
-    said = run("cat /var/log/nginx/office.error.log").stdout
-    judge("and the log of errors says so", f'write() to "{JOURNAL}" was incomplete' in said, said[-400:])
-    run(f"umount --lazy {JOURNAL.parent} && nginx -s reopen && sleep 1")
+    incomplete, log = f'write() to "{JOURNAL}" was incomplete', pathlib.Path("/var/log/nginx/office.error.log")
+    judge("and the log of errors says so", comes(lambda: incomplete in log.read_text(), 60), log.read_text()[-400:])
+    run(f"umount --lazy {JOURNAL.parent}")
+    place.reopen()

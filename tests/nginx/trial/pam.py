@@ -1,9 +1,9 @@
 """Passwords that PAM asks for, in place of a file: each request asks once, and what asks for no name asks PAM neither."""
 import pathlib
 import shutil
-import time
 
-from trial.judging import judge, same
+from shared.judging import judge, same
+from trial import place
 from trial.place import NAMES, PASSWORD, ask, post, run
 
 MODULE = pathlib.Path("/usr/lib/nginx/modules/ngx_http_auth_pam_module.so")
@@ -29,13 +29,7 @@ def set_up() -> None:
     run("sed -i 's/^auth_basic \"office\";/auth_pam \"office\";/; "
         f"s|^auth_basic_user_file {NAMES};|auth_pam_service_name \"office\";|' {CONFIGURED[0]}")
     run(f"sed -i 's/^#auth_pam off;/auth_pam off;/' {CONFIGURED[1]}")
-    reload()
-
-
-def reload() -> None:
-    done = run("nginx -t && nginx -s reload")
-    judge("nginx takes the files", done.returncode == 0, done.stdout)
-    time.sleep(3)
+    place.reload()
 
 
 def calls() -> list[str]:
@@ -63,7 +57,7 @@ def passwords(folder: str) -> None:
     same("for neither PAM is asked", calls(), [])
     for it in CONFIGURED:
         shutil.move(f"{it}.before", it)
-    reload()
+    place.reload()
 
 
 def guesses(folder: str) -> None:

@@ -1,7 +1,7 @@
 """Which paths come to an office, and what a monitor reads."""
+from shared.judging import same
 from trial import place
 from trial.access import error
-from trial.judging import same
 from trial.place import ask, post
 
 # path and method, and what the office is asked for

@@ -13,7 +13,8 @@ import threading
 import time
 from typing import NamedTuple
 
-from trial.judging import judge
+from shared.judging import judge
+from shared.waiting import comes
 
 TOP = pathlib.Path(__file__).resolve().parent.parent.parent.parent
 OFFICE = pathlib.Path(os.environ.get("OFFICE", TOP / "crates/office/out/office")).resolve()
@@ -36,7 +37,7 @@ class Answer(NamedTuple):
 def run(command: str, folder: pathlib.Path = TOP) -> subprocess.CompletedProcess[str]:
     env = {**os.environ, "PASSWORD": PASSWORD, "LC_ALL": "C"}
     return subprocess.run(["bash", "-c", command], cwd=folder, env=env, stdin=subprocess.DEVNULL,
-                          stdout=subprocess.PIPE, stderr=subprocess.STDOUT, text=True, timeout=120)
+                          stdout=subprocess.PIPE, stderr=subprocess.STDOUT, text=True, timeout=600)
 
 
 def commands() -> list[str]:
@@ -67,13 +68,46 @@ def start() -> None:
     run("chown root:root /var/lib/nginx/* && chmod 700 /var/lib/nginx/*")
 
 
+def workers() -> set[int]:
+    """The workers of nginx that take requests: not those that end."""
+    there = set()
+    for place in pathlib.Path("/proc").glob("[0-9]*/cmdline"):
+        try:
+            title = place.read_bytes()
+        except OSError:
+            continue
+        if title.startswith(b"nginx: worker process") and b"shutting down" not in title:
+            there.add(int(place.parent.name))
+    return there
+
+
+def reload() -> bool:
+    """Has nginx take its files, and waits until other workers take requests. Returns whether they do."""
+    before = workers()
+    done = run("nginx -t && nginx -s reload")
+    return judge("nginx takes the files", done.returncode == 0 and comes(lambda: workers() and not workers() & before), done.stdout)
+
+
+def reopen() -> None:
+    """Has nginx open its logs again, and waits until each worker has the journal that is there now."""
+    run("nginx -s reopen")
+    judge("nginx opens its logs again", comes(lambda: all(map(has_journal, workers()))))
+
+
+def has_journal(worker: int) -> bool:
+    """Whether a worker has the journal that is there now."""
+    there = JOURNAL.stat()
+    try:
+        files = [os.stat(file) for file in pathlib.Path(f"/proc/{worker}/fd").iterdir()]
+    except OSError:
+        return False
+    return any((file.st_dev, file.st_ino) == (there.st_dev, there.st_ino) for file in files)
+
+
 def stop() -> None:
     run("nginx -s quit")
-    for _ in range(100):
-        if not pathlib.Path("/run/nginx.pid").exists():
-            return
-        time.sleep(0.1)
-    raise SystemExit("nginx does not end")
+    if not comes(lambda: not pathlib.Path("/run/nginx.pid").exists(), 60):
+        raise SystemExit("nginx does not end")
 
 
 def uninstall() -> None:

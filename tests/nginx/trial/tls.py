@@ -2,7 +2,7 @@
 import shutil
 import time
 
-from trial.judging import judge
+from shared.judging import judge
 from trial.place import run
 
 AT = "/etc/nginx/office/office"
