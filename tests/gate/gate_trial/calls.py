@@ -22,7 +22,7 @@ SIGNAL = re.compile(r"--- (SIG\w+) ")
 DESCRIPTOR = re.compile(r"(\d+)<(.*?)>(?=,|$)")
 TEXT = re.compile(r'"((?:\\x[0-9a-f]{2})*)"')
 UNFINISHED = " <unfinished ...>"
-SECONDS = 60
+SECONDS = 120
 """what strace takes at most to write the rest of a trace"""
 
 

@@ -211,14 +211,9 @@ class Seen:
         return NEVER
 
     def others(self, what: str) -> list[tuple[Line, Conversation]]:
-        """Lists the lines of requests that go to no office, each with its client."""
-        found, taken = [], list[Conversation]()
-        for line in self.of(what):
-            fitting = [it for it in self.client_requests(line) if not any(it is other for other in taken)]
-            if fitting:
-                taken.append(fitting[0])
-                found.append((line, fitting[0]))
-        return found
+        """Lists the lines of requests that go to no office, each with its client; no two requests are alike."""
+        rows = [(line, self.client_requests(line)) for line in self.of(what)]
+        return [(line, clients[0]) for line, clients in rows if len(clients) == 1]
 
 
 def digests(data: bytes, lengths: list[int]) -> list[str]:

@@ -19,14 +19,18 @@ from gate_trial.world import HERE, TOKEN, parted, today
 NAMES = "".join(f"name {it} is {it}\n" for it in ("registry", "legal", "auditor", "archive"))
 NAMES += "".join(f"name {it} is records-manager\n" for it in ("records-manager", "anna", "berta"))
 SETTINGS = f"{ROLES}{NAMES}limit requests 64\nlimit lists 8\n"
-OBJECT = f"/vault/{hashlib.sha256(b'a file').hexdigest()}"
 CONTENT = b"what is filed " * 40
-SECONDS = 60
+SECONDS = 120
 """what the gate takes at most to go on in another file"""
 
 
 def placing(code: str) -> dict[str, Any]:
     return {"act": "place-hold", "code": code, "reason": f"reason of {code}"}
+
+
+def named(text: str) -> str:
+    """Returns the path of a file of the vault."""
+    return f"/vault/{hashlib.sha256(text.encode()).hexdigest()}"
 
 
 def confirming(record: int) -> dict[str, Any]:
@@ -54,6 +58,10 @@ class Client:
             lines |= {"Idempotency-Key": f"key-{self.count}", "Content-Length": str(len(body or b""))}
         head = "".join(f"{key}: {value}\r\n" for key, value in lines.items())
         return f"{method} {path} HTTP/1.1\r\n{head}\r\n".encode() + (body or b"")
+
+    def reading(self) -> bytes:
+        """Writes a reading whose path no other request has."""
+        return self.request("auditor", "GET", f"/overdue/{today()}/{self.count}")
 
     def one(self, wanted: int, request: bytes) -> None:
         """Sends a request, and compares the status of its answer."""
@@ -122,18 +130,18 @@ def alone(client: Client) -> None:
 
 def files(client: Client) -> None:
     """Has nginx ask for a file that goes into the vault, and report that it is there."""
-    client.one(204, client.request("registry", "GET", "/may", Office_Method="PUT", Office_Path=OBJECT))
-    client.one(201, client.request("registry", "GET", "/stored?length=6", Office_Path=OBJECT))
+    client.one(204, client.request("registry", "GET", "/may", Office_Method="PUT", Office_Path=named("a file")))
+    client.one(201, client.request("registry", "GET", "/stored?length=6", Office_Path=named("a file")))
 
 
 def together(client: Client, mark: str) -> None:
     """Sends acts, readings, refusals and questions of nginx at once: what need not be on the disk comes last."""
     acts = [client.acts("legal", placing(f"{mark}{at}")) for at in range(4)]
     acts += [client.acts("registry", filing(100 + client.count + at, 1, mark.encode() * 50)) for at in range(3)]
-    readings = [client.request("auditor", "GET", "/records/3") for _ in range(3)]
-    puts = [client.request("registry", "GET", "/may", Office_Method="PUT", Office_Path=f"/vault/{at}{OBJECT[8:]}")
+    readings = [client.reading() for _ in range(3)]
+    puts = [client.request("registry", "GET", "/may", Office_Method="PUT", Office_Path=named(f"{mark}{at}"))
             for at in range(4)]
-    refusals = [client.request("registry", "GET", f"/history?record={at}") for at in (1, 2)]
+    refusals = [client.request("registry", "GET", f"/history?name={mark}{at}") for at in range(2)]
     refusals += [client.acts("auditor", placing(f"{mark}R{at}")) for at in range(2)]
     client.at_once({200: len(acts) + len(readings), 403: len(refusals), 204: len(puts)}, readings + acts + puts + refusals)
 
@@ -143,7 +151,7 @@ def turned(client: Client, name: str = "", creates: bool = False) -> None:
 
     The last line before that is of a reading, which need not be on the disk.
     """
-    client.one(200, client.request("auditor", "GET", "/records/3"))
+    client.one(200, client.reading())
     world = client.world
     count = head_count(world)
     world.turns.append((name, creates))
