@@ -79,7 +79,7 @@ def quota(it: World) -> None:
         same(f"{len(data)} bytes of {name or 'nobody'} beside {unnamed}", status, wanted)
         judge("with a word of its own", status != 507 or body == b'{"error":"quota"}', body)
     held = Upload(it, os.urandom(UNNAMED // 2), "c")
-    end = time.monotonic() + SECONDS
+    end = time.monotonic() + SECONDS / 4
     status, body, _ = it.ask("PUT", f"/vault/{digest(part)}", part, Office_Name="c")
     # the service may not have read the head of the other yet
     while status == 200 and time.monotonic() < end:
