@@ -1,9 +1,11 @@
 """Uploads at once: those of one name, its bytes that no record names, and the room that each takes at its beginning."""
+import contextlib
 import os
 import pathlib
 import socket
 import threading
 import time
+from collections.abc import Callable
 
 from vault_trial import forked
 from vault_trial.answers import digest
@@ -53,14 +55,27 @@ class Upload:
         return found[:3]
 
 
+def under_way(it: World) -> int:
+    """Counts the uploads whose room the service has taken: their files have no name yet."""
+    count = 0
+    for fd in pathlib.Path(f"/proc/{it.service.pid}/fd").iterdir():
+        with contextlib.suppress(OSError):
+            link = os.readlink(fd)
+            count += "/objects/" in link and link.endswith(" (deleted)")
+    return count
+
+
+def until(holds: Callable[[], bool]) -> None:
+    """Waits until something holds; what does not come to that is judged after it."""
+    end = time.monotonic() + SECONDS
+    while not holds() and time.monotonic() < end:
+        time.sleep(0.05)
+
+
 def crowd(it: World) -> None:
     """Many silent PUTs of one name shut nobody out, and end as they would have."""
     slow = [Upload(it, b"slow %d" % at, "slow") for at in range(SLOW)]
-    end = time.monotonic() + SECONDS
-    while sum(not one.answer(0.01) for one in slow) > AT_ONCE and time.monotonic() < end:
-        time.sleep(0.1)
-    # those that are not refused by now wait for their bytes
-    time.sleep(1)
+    until(lambda: under_way(it) == AT_ONCE and sum(not one.answer(0.01) for one in slow) <= AT_ONCE)
     found = [one.answer(0.01) for one in slow]
     same("so many of them wait", found.count(""), AT_ONCE)
     judge("each other one is refused at once", set(found) == {"", '429 {"error":"often"}'}, found)
@@ -79,11 +94,8 @@ def quota(it: World) -> None:
         same(f"{len(data)} bytes of {name or 'nobody'} beside {unnamed}", status, wanted)
         judge("with a word of its own", status != 507 or body == b'{"error":"quota"}', body)
     held = Upload(it, os.urandom(UNNAMED // 2), "c")
-    end = time.monotonic() + SECONDS
+    until(lambda: under_way(it) == 1)
     status, body, _ = it.ask("PUT", f"/vault/{digest(part)}", part, Office_Name="c")
-    # the service may not have read the head of the other yet
-    while status == 200 and time.monotonic() < end:
-        status, body, _ = it.ask("PUT", f"/vault/{digest(part)}", part, Office_Name="c")
     same("what is under way counts", (status, body), (507, b'{"error":"quota"}'))
     same("another name's does not", it.ask("PUT", f"/vault/{digest(part)}", part, Office_Name="d")[0], 200)
     same("it ends", held.end(), "201")
