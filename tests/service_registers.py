@@ -39,7 +39,9 @@ def overdue(folder: pathlib.Path) -> None:
         header = (registers / f"overdue-{day['first']}.csv").read_text()
         judge("where nothing is overdue it has the header alone", header == wanted[1].splitlines(True)[0], header)
         stands = register.read_bytes()
-        full = path_with(folder / "full", "mv", "echo 'No space left on device' >&2\nexit 1")
+        # the copy gets its name by mv too, and is not what fails here
+        full = path_with(folder / "full", "mv", "case $* in */overdue.csv\\ *) echo 'No space left on device' >&2; exit 1 ;; esac\n"
+                         "exec /bin/mv \"$@\"")
         none = file.with_name("none.db")
         for name, words, how, wanted_error in (
             ("who is neither root nor the owner", (file, registers, day["second"], 30), {"user": NOBODY - 1},
@@ -49,7 +51,7 @@ def overdue(folder: pathlib.Path) -> None:
              "office: refused 2\noffice-overdue: there is no register of 2025-02-30 and 30 days\n"),
             ("a day that is a path", (file, registers, "../2025-02-02", 30), {}, "office-overdue: '../2025-02-02' is no day\n"),
             ("too many days", (file, registers, day["second"], 3651), {},
-             f"office: refused 2\noffice-overdue: there is no register of {day['second']} and 3651 days\n"),
+             f"office: refused 3\noffice-overdue: there is no register of {day['second']} and 3651 days\n"),
             ("a folder that is not there", (file, folder / "none", day["second"], 30), {},
              f"office-overdue: there is no folder {folder / 'none'}\n"),
             ("a register that is not written", (file, registers, day["second"], 30), {"PATH": full}, "No space left on device\n"),
@@ -100,7 +102,7 @@ def to_do(folder: pathlib.Path, file: pathlib.Path, register: pathlib.Path) -> N
     for name, words, error in (
         ("a day that is none", ("x", 30), "office-todo: 'x' is no day\n"),
         ("a day that is a query", ("2025-02-0'", 30), "office-todo: '2025-02-0'' is no day\n"),
-        ("too many days", (day, 3651), f"office: refused 2\noffice-todo: there is no list of {day} and 3651 days\n"),
+        ("too many days", (day, 3651), f"office: refused 3\noffice-todo: there is no list of {day} and 3651 days\n"),
     ):
         same(f"{name}: no list", script("office-todo", file, register.parent, *words, user=NOBODY), (1, "", error))
 

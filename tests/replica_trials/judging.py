@@ -1,13 +1,12 @@
-"""What was judged: the names of what held, and of what did not."""
+"""Judgements that show what was measured also if they hold."""
 from __future__ import annotations
 
-PASSED: list[str] = []
-FAILED: list[str] = []
+import shared.judging
+from shared.judging import FAILED, PASSED
+
+__all__ = ["FAILED", "PASSED", "judge"]
 
 
 def judge(name: str, holds: bool, seen: object = "", always: bool = False) -> bool:
-    """Counts one judgement and prints its line; `seen` is printed where it does not hold."""
-    (PASSED if holds else FAILED).append(name)
-    more = f" ({seen})" if always and holds else f"\n    {seen}" if seen and not holds else ""
-    print(f"{'passed' if holds else 'FAILED'}: {name}{more}", flush=True)
-    return holds
+    """Counts one judgement and prints its line; `seen` is printed if it fails, or always."""
+    return shared.judging.judge(f"{name} ({seen})" if always and holds else name, holds, seen)

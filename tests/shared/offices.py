@@ -4,7 +4,6 @@ from __future__ import annotations
 import functools
 import http.client
 import json
-import os
 import pathlib
 import subprocess
 import tempfile
@@ -118,10 +117,6 @@ class Office:
     def state(self) -> str:
         """Returns the letter of Linux for the state of the program: T is stopped, S asleep."""
         return pathlib.Path(f"/proc/{self.process.pid}/stat").read_text().rpartition(")")[2].split()[0]
-
-    def send(self, signal: int) -> None:
-        """Sends the program a signal."""
-        os.kill(self.process.pid, signal)
 
     def end(self) -> None:
         """Kills the program: what it answered is in FILE and its log."""
