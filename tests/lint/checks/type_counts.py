@@ -62,7 +62,8 @@ def strict(group: Group, names: list[str], cache: str) -> list[Finding]:
     if missing := MISSING.search(done.text):
         raise Skipped(f"there is no python3-{missing[1]}")
     named = re.findall(r"^[^:\n]+", done.text, re.M)
-    findings = findings_in(done.text, MYPY, {name: os.path.normpath(os.path.join(group.folder, name)) for name in named})
+    places = {name: os.path.normpath(os.path.join(group.folder, name)) for name in named}
+    findings = findings_in(done.text, MYPY, places)
     if done.status not in (0, 1) and not findings:
         findings = [Finding(names[0], 1, f"mypy ends with {done.status}: {done.text.strip()[-300:]}")]
     return findings
