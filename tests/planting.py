@@ -9,7 +9,7 @@ TOP = pathlib.Path(__file__).resolve().parent.parent
 
 
 class Edit(NamedTuple):
-    """A mistake to plant: its name, the file from the top of the repository, the text there, and the one in its place."""
+    """A mistake to plant: its name, the file from the top of the repository, the text there and the new one."""
 
     name: str
     file: str

@@ -96,8 +96,8 @@ def doubled(name: str, node: Any) -> list[Finding]:
             below.append(value)
     elif type(node).__name__ == "SequenceNode":
         below = node.value
-    for it in below:
-        findings += doubled(name, it)
+    for item in below:
+        findings += doubled(name, item)
     return findings
 
 
@@ -130,8 +130,8 @@ def openapi(_: list[str]) -> list[Finding]:
     except reader.YAMLError:
         return []  # the check yaml reports it
     errors = jsonschema.Draft202012Validator(form).iter_errors(value)
-    findings = [Finding(OPENAPI, line_in(tree, list(it.absolute_path)), f"{'/'.join(map(str, it.absolute_path))}: "
-                        f"{it.message[:200]}") for it in errors]
+    findings = [Finding(OPENAPI, line_in(tree, list(item.absolute_path)), f"{'/'.join(map(str, item.absolute_path))}: "
+                        f"{item.message[:200]}") for item in errors]
     for match in re.finditer(r"#/components/(\w+)/(\w+)", text):
         if match[2] not in value.get("components", {}).get(match[1], {}):
             findings.append(Finding(OPENAPI, text.count("\n", 0, match.start()) + 1, f"{match[0]} is not there"))

@@ -44,7 +44,8 @@ def need(*programs: str) -> None:
 def call(args: Sequence[object], *, cwd: object = None, given: str | None = None,
          env: Mapping[str, str] | None = None) -> Output:
     """Runs a program, and returns its status and its output and errors as one text."""
-    done = subprocess.run([str(arg) for arg in args], cwd=None if cwd is None else str(cwd), text=True, errors="replace",
+    place = None if cwd is None else str(cwd)
+    done = subprocess.run([str(arg) for arg in args], cwd=place, text=True, errors="replace",
                           input=given or "", stdout=subprocess.PIPE, stderr=subprocess.STDOUT, timeout=SECONDS,
                           check=False, env={**os.environ, "LC_ALL": "C.UTF-8", **(env or {})})
     return Output(done.returncode, done.stdout)

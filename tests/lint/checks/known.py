@@ -42,7 +42,8 @@ def compared(tool: str, errors: list[Finding], names: list[str]) -> list[Finding
     for file, own in sorted(by_file.items()):
         most, _ = known.get(file, (0, 0))
         if len(own) > most:
-            findings += [it._replace(text=f"{it.text} ({tool} has {len(own)} here, and {most} known)") for it in own]
+            counts = f"({tool} has {len(own)} here, and {most} known)"
+            findings += [error._replace(text=f"{error.text} {counts}") for error in own]
     for file, (most, line) in known.items():
         count = len(by_file[file])
         if not (TOP / file).is_file():

@@ -3,6 +3,7 @@ from __future__ import annotations
 
 import configparser
 import json
+import os
 import pathlib
 import re
 import tempfile
@@ -21,6 +22,7 @@ USERS = ("www-data", "office", "office-yearend", "office-gate", "office-member",
 def nft(names: list[str]) -> list[Finding]:
     """Has nft read each file, in which numbers take the place of users that this machine lacks."""
     need("nft", "unshare")
+    apart = ["unshare", "--net"] if os.geteuid() == 0 else ["unshare", "--net", "--map-root-user"]
     findings = []
     with tempfile.TemporaryDirectory(prefix="lint-nft-") as folder:
         copies = {}
@@ -31,9 +33,9 @@ def nft(names: list[str]) -> list[Finding]:
             copy = pathlib.Path(folder, pathlib.PurePosixPath(name).name)
             copy.write_text(text)
             copies[str(copy)] = name
-            done = call(["unshare", "--net", "--map-root-user", "nft", "--check", "--file", copy])
-            if "Operation not permitted" in done.text:
-                raise Skipped("nft may not read rules here: run this as root")
+            done = call([*apart, "nft", "--check", "--file", copy])
+            if re.search("Operation not permitted|not supported|Netlink socket", done.text):
+                raise Skipped(f"nft may not read rules here: {done.text.strip()[:80]}")
             own = findings_in(done.text, NFT, copies)
             findings += own or ([Finding(name, 1, done.text.strip()[:200])] if done.status else [])
     return findings
@@ -51,7 +53,7 @@ def logrotate(names: list[str]) -> list[Finding]:
             copy.chmod(0o644)
             done = call(["logrotate", "--debug", "--state", pathlib.Path(folder, "state"), copy])
             own = findings_in(done.text, LOGROTATE, {str(copy): name, copy.name: name})
-            errors = [line for line in done.text.splitlines() if line.startswith("error: ") and "failed to rotate" not in line]
+            errors = re.findall(r"^error: (?!.*failed to rotate).*$", done.text, re.M)
             findings += own or [Finding(name, 1, line) for line in errors[:1]]
     return findings
 
@@ -72,8 +74,8 @@ def fail2ban(names: list[str]) -> list[Finding]:
             for status, count in ((401, 1), (200, 0)):
                 done = call(["fail2ban-regex", SAMPLE.format(status=status), TOP / name])
                 if f"{count} matched" not in done.text:
-                    findings.append(Finding(name, line_of(read(name), "failregex"),
-                                            f"of a line with {status} fail2ban-regex matches another number than {count}"))
+                    why = f"of a line with {status} fail2ban-regex matches another number than {count}"
+                    findings.append(Finding(name, line_of(read(name), "failregex"), why))
     return findings
 
 
@@ -82,9 +84,9 @@ def prometheus(names: list[str]) -> list[Finding]:
     need("promtool")
     findings = []
     for name in names:
-        kind = "rules" if name.endswith(".rules.yml") else "config"
+        kind = ["rules"] if name.endswith(".rules.yml") else ["config", "--syntax-only"]
         text = read(name)
-        done = call(["promtool", "check", kind, "--syntax-only", name] if kind == "config" else ["promtool", "check", kind, name], cwd=TOP)
+        done = call(["promtool", "check", *kind, name], cwd=TOP)
         if done.status:
             line = re.search(r"line (\d+)|[ :](\d+):\d+:", done.text)
             at = int(line[1] or line[2]) if line else line_of(text, "rules")
@@ -133,6 +135,8 @@ def access(names: list[str]) -> list[Finding]:
     findings = []
     for name in names:
         done = call([PYTHON, "-I", "service/gate/office-gate", "check", name], cwd=TOP)
+        if missing := re.search("No module named '(aiohttp|h11)'", done.text):
+            raise Skipped(f"there is no python3-{missing[1]}")
         if done.status:
             pattern = re.compile(rf"(?P<file>{re.escape(name)})(?::| line |, line )(?P<line>\d+):? ?(?P<text>.*)")
             findings += findings_in(done.text, pattern) or [Finding(name, 1, done.text.strip()[-200:])]

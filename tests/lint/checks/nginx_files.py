@@ -1,4 +1,4 @@
-"""The sites of nginx: nginx reads each as docs/SERVICE.md puts it there, with files of a trial in place of the secrets."""
+"""The sites of nginx: nginx reads each as docs/SERVICE.md puts it there, with made files in place of the secrets."""
 from __future__ import annotations
 
 import pathlib
@@ -6,14 +6,14 @@ import re
 import subprocess
 import tempfile
 
-from checks.finding import Finding, call, findings_in, need
+from checks.finding import Finding, Skipped, call, findings_in, need
 from checks.tree import TOP, files
 
 NGINX = "service/nginx"
 MODULE = "/usr/lib/nginx/modules/ngx_http_js_module.so"
 SITES = ("office.conf", "offices.conf", "gated.conf")
 OF_MEMBERS = "service/replicas/nginx.conf"
-MAIN = """{module}
+MAIN = """load_module {module};
 include {folder}/limits.conf;
 pid {folder}/pid;
 error_log {folder}/error.log;
@@ -33,13 +33,17 @@ OTHER = re.compile(r"^nginx: \[(?:emerg|alert)\] .*$|^nginx: configuration file 
 
 def is_nginx(name: str) -> bool:
     """Whether a file is one that nginx reads."""
-    return name.startswith(f"{NGINX}/") and name.count("/") == 2 and name.endswith((".conf", ".js")) or name == OF_MEMBERS
+    is_here = name.startswith(f"{NGINX}/") and name.count("/") == 2
+    return is_here and name.endswith((".conf", ".js")) or name == OF_MEMBERS
 
 
 def placed(text: str, folder: pathlib.Path) -> str:
     """Puts folders of the check in place of those of a machine; no line moves."""
     text = re.sub(r"^( *)listen \[::\]", r"\1#listen [::]", text, flags=re.M)
-    for old, new in (("/etc/nginx/office/", f"{folder}/"), ("/var/log/nginx/", f"{folder}/"), ("/var/log/office/", f"{folder}/")):
+    # ports that any user may listen at; nginx -t does not mind another that does
+    for old, new in (("listen 80;", "listen 127.0.0.1:28080;"), ("listen 443 ", "listen 127.0.0.1:28443 "),
+                     ("/etc/nginx/office/", f"{folder}/"), ("/var/log/nginx/", f"{folder}/"),
+                     ("/var/log/office/", f"{folder}/")):
         text = text.replace(old, new)
     return text
 
@@ -55,9 +59,8 @@ def secrets(folder: pathlib.Path) -> None:
 
 def tested(folder: pathlib.Path, site: str, names: dict[str, str]) -> list[Finding]:
     """Has nginx read a site, and returns its complaints at the files of the repository."""
-    module = f"load_module {MODULE};" if pathlib.Path(MODULE).exists() else ""
     main = folder / "nginx.main"
-    main.write_text(MAIN.format(module=module, folder=folder, site=site))
+    main.write_text(MAIN.format(module=MODULE, folder=folder, site=site))
     done = call(["nginx", "-t", "-q", "-c", main, "-e", folder / "error.log"], cwd=TOP)
     findings = findings_in(done.text, ERROR, names)
     if done.status and not findings:
@@ -67,14 +70,16 @@ def tested(folder: pathlib.Path, site: str, names: dict[str, str]) -> list[Findi
 
 
 def sites(_: list[str]) -> list[Finding]:
-    """Has nginx read each site, with the lines of examples that a machine takes the marks from, and a member's lines."""
+    """Has nginx read each site; then again with the lines that are examples, and with those of a member."""
     need("nginx", "openssl")
+    if not pathlib.Path(MODULE).exists():
+        raise Skipped("there is no libnginx-mod-http-js")
     findings = []
     with tempfile.TemporaryDirectory(prefix="lint-nginx-") as name:
         folder = pathlib.Path(name)
         secrets(folder)
         names = {}
-        for file in [it for it in files() if is_nginx(it)]:
+        for file in [item for item in files() if is_nginx(item)]:
             target = folder / ("member.conf" if file == OF_MEMBERS else pathlib.PurePosixPath(file).name)
             target.write_text(placed((TOP / file).read_text(), folder))
             names[str(target)] = file

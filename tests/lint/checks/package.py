@@ -1,6 +1,7 @@
 """What the package is made of: its lists, manual pages, completion, hooks and copyright."""
 from __future__ import annotations
 
+import datetime
 import importlib
 import pathlib
 import re
@@ -12,8 +13,8 @@ from checks.finding import Finding, call, line_of, need
 from checks.tree import TOP, files, interpreter, read, suffix
 
 LISTS = ("packaging/files", "packaging/replicas/files", "packaging/copies")
-# what lies in service and is in no list: pages for the repository, and programs for a trial of three members on one machine
-LEFT_OUT = ("service/replicas/three", "service/replicas/README.md")
+LEFT_OUT = ("service/replicas/three",)
+"""what no package has: it tries three members on one machine"""
 VERSION, DAY = "1.0", "2026-01-01"
 
 
@@ -26,12 +27,12 @@ def making(name: str) -> Any:
 
 def rows(name: str) -> list[tuple[int, str, str]]:
     """Returns the lines of a list: number, source and place."""
-    found = []
+    lines = []
     for at, line in enumerate(read(name).split("\n"), 1):
         if line and not line.startswith("#"):
             source, place, *_ = [*line.split(), "", ""]
-            found.append((at, source, place))
-    return found
+            lines.append((at, source, place))
+    return lines
 
 
 def lists(names: list[str]) -> list[Finding]:
@@ -41,7 +42,7 @@ def lists(names: list[str]) -> list[Finding]:
     for name in LISTS:
         seen: set[str] = set()
         for at, source, place in rows(name):
-            own = [it for it in files() if it == source or it.startswith(f"{source}/")]
+            own = [item for item in files() if item == source or item.startswith(f"{source}/")]
             covered |= set(own) if name != "packaging/copies" else set()
             if not own:
                 findings.append(Finding(name, at, f"{source} is not there"))
@@ -49,13 +50,14 @@ def lists(names: list[str]) -> list[Finding]:
                 findings.append(Finding(name, at, "no line of a source and a folder"))
             if source in seen:
                 findings.append(Finding(name, at, f"{source} is there twice"))
-            if place == "/usr/bin" and not all(interpreter(it) for it in own):
+            if place == "/usr/bin" and not all(interpreter(item) for item in own):
                 findings.append(Finding(name, at, f"{source} has no first line that names its program"))
             seen.add(source)
-    for it in files():
-        if it.startswith(("service/", "replicas/")) and it not in covered and it not in LEFT_OUT and suffix(it) != ".md":
-            findings.append(Finding(it, 1, "no list of packaging names it: add it to packaging/files or packaging/replicas/files"))
-    return [it for it in findings if it.file in names]
+    for item in files():
+        is_of_machine = item.startswith(("service/", "replicas/")) and suffix(item) != ".md"
+        if is_of_machine and item not in covered and item not in LEFT_OUT:
+            findings.append(Finding(item, 1, f"it is in no package: add it to {' or '.join(LISTS[:2])}"))
+    return [item for item in findings if item.file in names]
 
 
 def pages() -> dict[str, str]:
@@ -63,11 +65,11 @@ def pages() -> dict[str, str]:
     manual, staging = making("manual"), making("staging")
     texts = {"README.md": manual.office(VERSION, DAY, staging.scripts_in("files"))}
     for of in ("files", "replicas/files"):
-        for it in staging.listed(of):
-            if it.folder == "usr/bin":
-                name = str(it.source.relative_to(TOP))
+        for item in staging.listed(of):
+            if item.folder == "usr/bin":
+                name = str(item.source.relative_to(TOP))
                 try:
-                    texts[name] = manual.script(it.source.name, it.source.read_text(), VERSION, DAY)
+                    texts[name] = manual.script(item.source.name, item.source.read_text(), VERSION, DAY)
                 except IndexError:
                     texts[name] = ""  # a first comment without a usage, an empty line and a text
     return texts
@@ -75,7 +77,8 @@ def pages() -> dict[str, str]:
 
 def has_page(name: str) -> bool:
     """Whether the package makes a manual page of a file."""
-    return name == "README.md" or any(source == name and place == "/usr/bin" for it in LISTS[:2] for _, source, place in rows(it))
+    listed = [row for item in LISTS[:2] for row in rows(item)]
+    return name == "README.md" or any(source == name and place == "/usr/bin" for _, source, place in listed)
 
 
 def usage(name: str) -> list[Finding]:
@@ -85,13 +88,13 @@ def usage(name: str) -> list[Finding]:
         if not line.startswith("# "):
             break
         if not line.startswith(f"# {pathlib.PurePosixPath(name).name}"):
-            findings.append(Finding(name, at, "no call of the script, and no empty line before it, for the manual page"))
+            findings.append(Finding(name, at, "for the manual page, no call of the script and no empty line before it"))
     return findings[:1]
 
 
 def manuals(names: list[str]) -> list[Finding]:
-    """Makes each manual page, and has groff and mandoc read it."""
-    need("groff", "mandoc")
+    """Makes each manual page, and has groff read it."""
+    need("groff")
     findings = []
     with tempfile.TemporaryDirectory(prefix="lint-manual-") as folder:
         for name, text in pages().items():
@@ -101,11 +104,11 @@ def manuals(names: list[str]) -> list[Finding]:
             page.write_text(text)
             complaints = [] if text else ["page.1:1: there is no usage, empty line and text in the first comment"]
             complaints += call(["groff", "-K", "utf8", "-man", "-Tutf8", "-ww", "-z", page]).text.splitlines()
-            complaints += [it for it in call(["mandoc", "-T", "lint", "-W", "warning", page]).text.splitlines() if it]
-            for it in complaints:
-                at = re.search(r"page\.1:(\d+)", it)
+            for item in complaints:
+                at = re.search(r"page\.1:(\d+)", item)
                 piece = text.split("\n")[int(at[1]) - 1] if at else ""
-                findings.append(Finding(name, line_of(read(name), piece[:30]), f"its manual page: {it.partition('page.1:')[2]}: {piece[:60]}"))
+                why = f"its manual page: {item.partition('page.1:')[2]}: {piece[:60]}"
+                findings.append(Finding(name, line_of(read(name), piece[:30]), why))
             if name != "README.md":
                 findings += usage(name)
             for part in ("NAME", "SYNOPSIS", "DESCRIPTION"):
@@ -163,13 +166,15 @@ def changelog(names: list[str]) -> list[Finding]:
                 if line.startswith("## ") and line != "## Next" and not module.HEADING.fullmatch(line)]
     if findings or not module.HEADING.search(text):
         return findings or [Finding(names[0], 1, "no version has a number")]
-    versions = [it for it in module.versions() if "+git" not in it.number]
+    # what is under Next gets the number of a commit, which a tree without git has not
+    module.last_commit = lambda: (datetime.date.today(), "0.none")
+    versions = module.versions()
     with tempfile.TemporaryDirectory(prefix="lint-changelog-") as folder:
         made = pathlib.Path(folder, "changelog")
         made.write_text(module.debian(versions, "A Name <name@example.org>"))
         done = call(["dpkg-parsechangelog", "--all", "-l", made])
     findings += [Finding(names[0], 1, line) for line in done.text.splitlines() if "warning" in line or "error" in line]
-    days = [it.day for it in versions]
+    days = [item.day for item in versions if "+git" not in item.number]
     if days != sorted(days, reverse=True):
         findings.append(Finding(names[0], line_of(text, "## "), "the days of the versions do not go back"))
     return findings

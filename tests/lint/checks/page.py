@@ -70,19 +70,20 @@ def html_files(names: list[str]) -> list[Finding]:
         findings += [Finding(name, line, f"<{tag}> is never closed") for tag, line in reader.open]
         for line, attribute, value in reader.named:
             if attribute in OF_FORMS:
-                strange = [it for it in value.split() if it not in reader.ids]
-                findings += [Finding(name, line, f"{attribute} names no id of the page: {it}") for it in strange]
+                strange = [item for item in value.split() if item not in reader.ids]
+                findings += [Finding(name, line, f"{attribute} names no id of the page: {item}") for item in strange]
             elif value and not re.match(r"#|[a-z]+:", value):
                 path = (TOP / name).parent / value.split("?")[0]
                 findings += [] if path.exists() else [Finding(name, line, f"there is no file {value}")]
     return findings
 
 
-IMPORT = re.compile(r"^(?:import|export)\b[^;\"]*?\"(\.[^\"]+)\"|\bimport\(\"(\.[^\"]+)\"\)|new URL\(\"(\.[^\"]+)\"", re.M)
+IMPORT = re.compile(r"^(?:import|export)\b[^;\"]*?\"(\.[^\"]+)\"|\bimport\(\"(\.[^\"]+)\"\)"
+                    r"|new URL\(\"(\.[^\"]+)\"", re.M)
 
 
 def imports(names: list[str]) -> list[Finding]:
-    """Follows what each module of the page imports: the file, and each name that it exports."""
+    """Follows each module of the page to the files that it imports; the names in them are for tsc."""
     findings = []
     for name in names:
         text = read(name)
@@ -119,7 +120,8 @@ def css_file(name: str) -> list[Finding]:
                 return [*findings, Finding(name, line, f"{token} where none is open")]
         elif token.startswith("@") and token not in AT_RULES and not MARGINS.fullmatch(token):
             findings.append(Finding(name, line, f"{token} is no known rule"))
-    return findings + [Finding(name, line, f"{token} is never closed") for token, line in brackets] or declared(name, text)
+    findings += [Finding(name, line, f"{token} is never closed") for token, line in brackets]
+    return findings or declared(name, text)
 
 
 def blank(match: re.Match[str]) -> str:
@@ -145,7 +147,7 @@ def declared(name: str, text: str) -> list[Finding]:
 def css_files(names: list[str]) -> list[Finding]:
     """Reads each style sheet; a colour or length of a name that none defines is a finding too."""
     findings = [finding for name in names for finding in css_file(name)]
-    everywhere = [it for it in files() if it.startswith("web/") and it.endswith((".css", ".js", ".html"))]
+    everywhere = [item for item in files() if item.startswith("web/") and item.endswith((".css", ".js", ".html"))]
     source = "\n".join(map(read, everywhere))
     defined = set(re.findall(r"(--[\w-]+)[\"']?\s*[:,]", source))
     made = tuple(re.findall(r"(--[\w-]+)\$\{", source))

@@ -18,7 +18,8 @@ def parsed(names: list[str]) -> list[Finding]:
         need(shell)
         done = call([shell, "-n", name], cwd=TOP)
         if done.status or done.text:
-            findings += findings_in(done.text, SHELL) or [Finding(name, 1, done.text.strip() or f"{shell} -n ends with {done.status}")]
+            why = done.text.strip() or f"{shell} -n ends with {done.status}"
+            findings += findings_in(done.text, SHELL) or [Finding(name, 1, why)]
     return findings
 
 

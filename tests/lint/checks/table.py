@@ -4,7 +4,8 @@ from __future__ import annotations
 from collections.abc import Callable
 from typing import NamedTuple
 
-from checks import data, javascript, known, machine, mutants, nginx_files, package, page, python_files, shell, texts, type_counts, units
+from checks import c_files, data, javascript, known, machine, mutants, nginx_files, package, page, python_files
+from checks import shell, texts, type_counts, units
 from checks.finding import Finding
 from checks.tree import is_ours, is_python, is_shell, suffix
 
@@ -40,12 +41,14 @@ def ends(*endings: str) -> Callable[[str], bool]:
 
 def is_of_texts(name: str) -> bool:
     """Whether a file has texts of the page, names them, or has the tables that they are compared with."""
-    return name in ("docs/ERRORS.md", "docs/WEB.md") or name.startswith("web/") and name.endswith((".js", ".html", ".json"))
+    is_of_web = name.startswith("web/") and name.endswith((".js", ".html", ".json"))
+    return is_of_web or name in ("docs/ERRORS.md", "docs/WEB.md")
 
 
 # the longest come first, so that two at a time end together
 CHECKS = (
-    Check("mypy", "types of Python, as far as known.txt lets them be", lambda name: type_counts.is_typed(name) or name == known.NAME, type_counts.mypy),
+    Check("mypy", "types of Python, as far as known.txt lets them be",
+          lambda name: type_counts.is_typed(name) or name == known.NAME, type_counts.mypy),
     Check("pyflakes", "unused imports, names that are not there", is_python, python_files.pyflakes),
     Check("tsc", "types of the page, as far as known.txt lets them be",
           lambda name: is_of_page(name) or name == known.NAME, type_counts.tsc),
@@ -75,10 +78,13 @@ CHECKS = (
     Check("members", "settings of a member, by the member", ends("service/replicas/city.json"), machine.members),
     Check("lists", "what the packages have is there, and what is there they have",
           lambda name: name in package.LISTS or name.startswith(("service/", "replicas/")), package.lists),
-    Check("manual", "manual pages, by groff and mandoc", package.has_page, package.manuals),
+    Check("manual", "manual pages, by groff", package.has_page, package.manuals),
     Check("completion", "the completion as it is made, by bash", ends("packaging/completion"), package.completion),
-    Check("hooks", "what Debian runs before and after, as it is made", ends("/postinst", "/prerm", "/postrm"), package.hooks),
+    Check("hooks", "what Debian runs before and after, as it is made", ends("/postinst", "/prerm", "/postrm"),
+          package.hooks),
     Check("changelog", "the versions, in Debian's form", lambda name: name == "CHANGELOG.md", package.changelog),
     Check("mutants", "planted mistakes of the companions can still be planted", mutants.is_planted, mutants.applied),
-    Check("copyright", "the copyright names a holder and a licence", ends("packaging/copyright"), package.copyright_text),
+    Check("c", "C, by the compiler", ends(".c"), c_files.parsed),
+    Check("copyright", "the copyright names a holder and a licence", ends("packaging/copyright"),
+          package.copyright_text),
 )

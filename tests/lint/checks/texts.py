@@ -58,7 +58,7 @@ def difference(seen: Any, wanted: Any) -> list[str]:
     if isinstance(seen, dict) and isinstance(wanted, dict):
         return sorted(key for key in seen.keys() | wanted.keys() if seen.get(key) != wanted.get(key))
     if isinstance(seen, list) and isinstance(wanted, list):
-        return [it for it in seen if it not in wanted] + [it for it in wanted if it not in seen]
+        return [item for item in seen if item not in wanted] + [item for item in wanted if item not in seen]
     return [repr(seen)]
 
 
@@ -87,11 +87,11 @@ def judged() -> list[Finding]:
 def patterns_in(source: str) -> list[re.Pattern[str]]:
     """Returns a pattern for each text of the source that has places, with a group for each place."""
     parts = [PLACE.split(JOINED.sub("${_}", text)) for text in re.findall(r"`([^`\n]*)`", source) if PLACE.search(text)]
-    return [re.compile("(.+)".join(map(re.escape, it))) for it in parts if re.search(r"[a-z]", "".join(it))]
+    return [re.compile("(.+)".join(map(re.escape, item))) for item in parts if re.search(r"[a-z]", "".join(item))]
 
 
 def unnamed() -> list[Finding]:
-    """Finds texts that no file of web/ names: neither outright, nor by its part and a word, nor by a text with places."""
+    """Finds texts that no file of web/ names: outright, by its part and a word, or by a text with places."""
     source = "\n".join(read(name) for name in files() if name.startswith("web/") and name.endswith((".js", ".html")))
     literals = set(re.findall(r"[\"`]([A-Za-z][\w.-]*)[\"`]", source))
     single = set(re.findall(r"[\w-]+", source))
@@ -99,18 +99,19 @@ def unnamed() -> list[Finding]:
 
     def is_word(text: str) -> bool:
         pieces = re.findall(r"[A-Z]?[a-z0-9-]+", text)
-        is_joined = "".join(pieces) == text and len(pieces) > 1 and all(it in single for it in pieces)
-        return text in single or text.isdigit() or is_joined or any(it.fullmatch(text) for it in patterns)
+        is_joined = "".join(pieces) == text and len(pieces) > 1 and all(item in single for item in pieces)
+        return text in single or text.isdigit() or is_joined or any(item.fullmatch(text) for item in patterns)
 
     def is_made(key: str) -> bool:
-        matches = [it.fullmatch(key) for it in patterns if "\\." in it.pattern]
+        matches = [item.fullmatch(key) for item in patterns if "\\." in item.pattern]
         return any(all(map(is_word, ".".join(match.groups()).split("."))) for match in matches if match)
 
     findings = []
     for key in module().flat(json.loads(read(ENGLISH))):
         part, _, last = key.rpartition(".")
-        parts = [part[:it.start()] for it in re.finditer(r"\.|$", part)]
-        is_named = key in literals or is_made(key) or is_word(last) and any(it in literals or is_made(it) for it in parts)
+        parts = [part[:item.start()] for item in re.finditer(r"\.|$", part)]
+        is_part_named = any(item in literals or is_made(item) for item in parts)
+        is_named = key in literals or is_made(key) or is_word(last) and is_part_named
         if key.split(".")[0] not in (*TABLES, "lang") and not is_named:
             findings.append(Finding(ENGLISH, line_of_key(ENGLISH, key), f"no file of web/ names {key}"))
     return findings

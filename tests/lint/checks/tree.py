@@ -14,7 +14,8 @@ UNTRACKED = {".git", "out", "target", "__pycache__", ".mypy_cache"}
 
 def by_git() -> list[str] | None:
     """Lists what git has or has yet to take, or returns None if the tree is not git's."""
-    args = ["git", "-c", f"safe.directory={TOP}", "-C", str(TOP), "ls-files", "-z", "--cached", "--others", "--exclude-standard"]
+    args = ["git", "-c", f"safe.directory={TOP}", "-C", str(TOP), "ls-files", "-z", "--cached", "--others",
+            "--exclude-standard"]
     if not (TOP / ".git").exists():
         return None
     try:

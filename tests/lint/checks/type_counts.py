@@ -1,4 +1,4 @@
-"""Types: mypy --strict for each package of Python, and tsc for the page. What is known may not grow (known.txt)."""
+"""Types: mypy --strict for the Python of the product, and tsc for the page. What is known may not grow (known.txt)."""
 from __future__ import annotations
 
 import os
@@ -9,7 +9,7 @@ from typing import NamedTuple
 from checks import known
 from checks.finding import Finding, Skipped, call, findings_in, need
 from checks.python_files import PYTHON
-from checks.tree import TOP, files, suffix
+from checks.tree import TOP, files, is_python
 
 MYPY_VERSION, TSC_VERSION = "1.0.1", "4.8.4"
 """those of Debian 12: another version has other findings, so counts cannot be compared"""
@@ -17,46 +17,55 @@ MYPY = re.compile(r"^(?P<file>[^:\n]+):(?P<line>\d+): error: (?P<text>.+)$", re.
 MISSING = re.compile(r"Cannot find implementation or library stub for module named \"(aiohttp|h11)[\".]")
 """what mypy says of a library that this machine lacks; of a module of ours it is a finding"""
 TSC = re.compile(r"^(?P<file>[^(\n]+)\((?P<line>\d+),\d+\): error (?P<text>.+)$", re.M)
+STRICT = ("--strict", "--no-error-summary", "--no-color-output", "--hide-error-context", "--follow-imports=silent",
+          "--namespace-packages", "--explicit-package-bases", "--scripts-are-modules")
 
 
 class Group(NamedTuple):
-    """Packages that one call of mypy reads: the folder of the call, their names, and where else it looks for imports."""
+    """A folder whose Python one call of mypy reads, where it looks for imports, and the only file, if it is one."""
 
     folder: str
-    packages: tuple[str, ...]
-    path: str = ""
+    path: str = "."
+    only: str = ""
 
 
 GROUPS = (
-    Group("service/gate", ("office_gate",), "..:../vault"),
-    Group("service/vault", ("office_vault",), ".."),
-    Group("service", ("office_serve", "office_seal")),
-    Group("replicas", ("replica",)),
-    Group("packaging", ("making",)),
-    Group("tools", ("asking", "checking", "intaking", "spreadsheet", "transferring")),
-    Group("tests/lint", ("checks",)),
+    Group("service/gate", ".:..:../vault"),
+    Group("service/vault", ".:.."),
+    Group("service", ".:gate:vault"),
+    Group("replicas"),
+    Group("packaging"),
+    Group("tools"),
+    Group("tests/lint"),
+    Group("tests", only="tests/planting.py"),
 )
 
 
+def group_of(name: str) -> Group | None:
+    """Returns the group that has a file, if one has: that of the innermost folder."""
+    if not is_python(name):
+        return None
+    groups = [item for item in GROUPS if name.startswith(f"{item.folder}/") and item.only in ("", name)]
+    return max(groups, key=lambda item: len(item.folder)) if groups else None
+
+
 def is_typed(name: str) -> bool:
-    """Whether a file is in a package that mypy reads."""
-    return suffix(name) == ".py" and any(name.startswith(f"{it.folder}/{package}/") for it in GROUPS for package in it.packages)
+    """Whether mypy reads a file."""
+    return group_of(name) is not None
 
 
-def strict(group: Group, cache: str) -> list[Finding]:
-    """Runs mypy --strict over the packages of a group."""
-    names = [arg for package in group.packages for arg in ("-p", package)]
-    args = [PYTHON, "-m", "mypy", "--strict", "--no-error-summary", "--no-color-output", "--hide-error-context",
-            "--follow-imports=silent", "--namespace-packages", "--explicit-package-bases", "--cache-dir", cache, *names]
-    done = call(args, cwd=TOP / group.folder, env={"MYPYPATH": group.path or "."})
+def strict(group: Group, names: list[str], cache: str) -> list[Finding]:
+    """Runs mypy --strict over the files of a group."""
+    own = [os.path.relpath(name, group.folder) for name in names]
+    args = [PYTHON, "-m", "mypy", *STRICT, "--cache-dir", cache, *own]
+    done = call(args, cwd=TOP / group.folder, env={"MYPYPATH": group.path})
     if missing := MISSING.search(done.text):
         raise Skipped(f"there is no python3-{missing[1]}")
-    findings = []
-    for it in findings_in(done.text, MYPY):
-        file = os.path.normpath(os.path.join(group.folder, it.file))
-        findings.append(it._replace(file=file))
+    named = re.findall(r"^[^:\n]+", done.text, re.M)
+    places = {name: os.path.normpath(os.path.join(group.folder, name)) for name in named}
+    findings = findings_in(done.text, MYPY, places)
     if done.status not in (0, 1) and not findings:
-        findings = [Finding(f"{group.folder}/{group.packages[0]}/__init__.py", 1, done.text.strip()[-300:])]
+        findings = [Finding(names[0], 1, f"mypy ends with {done.status}: {done.text.strip()[-300:]}")]
     return findings
 
 
@@ -65,13 +74,14 @@ def mypy(names: list[str]) -> list[Finding]:
     version = call([PYTHON, "-m", "mypy", "--version"]).text
     if version.split()[:2] != ["mypy", MYPY_VERSION]:
         raise Skipped(f"mypy is not {MYPY_VERSION}: {version.strip()[-80:]}")
-    names, read, findings = known.with_known("mypy", names), [], []
+    wanted = {group_of(name) for name in known.with_known("mypy", names)}
+    findings: list[Finding] = []
+    read: list[str] = []
     with tempfile.TemporaryDirectory(prefix="lint-mypy-") as cache:
-        for group in GROUPS:
-            places = tuple(f"{group.folder}/{package}/" for package in group.packages)
-            if any(name.startswith(places) for name in names):
-                read += [name for name in files() if name.startswith(places)]
-                findings += strict(group, cache)
+        for group in [item for item in GROUPS if item in wanted]:
+            own = [name for name in files() if group_of(name) == group]
+            findings += strict(group, own, cache)
+            read += own
     return known.compared("mypy", findings, read)
 
 

@@ -54,4 +54,4 @@ def verified(names: list[str]) -> list[Finding]:
             findings.append(Finding(by_unit.get(unit["unit"], unit["unit"]), 1, unit["text"]))
         elif line.strip() and not unit:
             findings.append(Finding(names[0], 1, line.strip()))
-    return [it for it in findings if it.file in by_unit.values()] + named_programs(names)
+    return [item for item in findings if item.file in by_unit.values()] + named_programs(names)
