@@ -129,14 +129,14 @@ def judge_pruned(booted: "Booted") -> None:
 def judge_hung(booted: "Booted") -> None:
     """A program that hangs is started again by office-serve, and office-serve, if it hangs, by systemd."""
     place = "/run/systemd/system/office@city.service.d"
-    booted.run(f"mkdir -p {place}; printf '[Service]\\nWatchdogSec=6\\nExecStart=\\nExecStart=/usr/bin/office-serve "
-               "--hang-seconds 4 --readings /run/office/%%i/readings /var/lib/office/%%i/office.db ${PORT}\\n' "
+    booted.run(f"mkdir -p {place}; printf '[Service]\\nWatchdogSec=16\\nExecStart=\\nExecStart=/usr/bin/office-serve "
+               "--hang-seconds 8 --readings /run/office/%%i/readings /var/lib/office/%%i/office.db ${PORT}\\n' "
                f">{place}/short.conf; systemctl daemon-reload; systemctl restart office@city")
     serve = "$(systemctl show -P MainPID office@city)"
     program = f"$(cut -d ' ' -f 1 /proc/{serve}/task/{serve}/children)"
     restarts = "systemctl show -P NRestarts office@city"
     gone = "for n in $(seq 600); do test -e /proc/$p || break; sleep 0.2; done; test -e /proc/$p || echo ended; "
-    done = booted.run(f"sleep 10; {restarts}; p={program}; kill -STOP $p; {gone}"
+    done = booted.run(f"sleep 20; {restarts}; p={program}; kill -STOP $p; {gone}"
                       f"{ASK} 8081 /due/0001-01-01 | cut -c 1-3; {restarts}")
     judge("systemd: a program that hangs is started again, by the same service", done.out == "0\nended\n200\n0\n", done)
     again = f"for n in $(seq 600); do [ $({restarts}) = 0 ] || break; sleep 0.2; done; "

@@ -146,8 +146,9 @@ def kept(it: Machine) -> None:
                                                           "systemctl show -P NRestarts office-vault@city")[1], "active\n1")
     it.run(f"rm {CITY}/objects/{name[:2]}/{name}")
     status, said = it.run("systemctl start office-vault-check@city; systemctl is-failed office-vault-check@city; "
-                          "journalctl -u office-vault-check@city --no-pager | grep missing; sleep 2; "
-                          "journalctl -p err --no-pager | grep -c 'office-vault-check@city failed'")
+                          "journalctl -u office-vault-check@city --no-pager | grep missing; for n in $(seq 300); do "
+                          "journalctl -p err --no-pager | grep -c 'office-vault-check@city failed' && break; "
+                          "sleep 0.2; done | tail -n 1")
     judge("a file that is missing is a failure that is reported", "failed" in said and "missing" in said
           and said.endswith("1"), said)
     status, said = it.run(f"office-vault mirror {SECOND} {CITY} && stat -c '%U %G %a' {CITY}/objects/{name[:2]}/{name}")
