@@ -55,7 +55,7 @@ def plain(text: str) -> bytes:
 
 def named(text: str) -> str:
     """Returns what a descriptor is: the path of a file, or the ends of a connection."""
-    return re.sub(r"(?:\\x[0-9a-f]{2})+", lambda it: plain(it[0]).decode(errors="replace"), text)
+    return re.sub(r"(?:\\x[0-9a-f]{2})+", lambda match: plain(match[0]).decode(errors="replace"), text)
 
 
 def call_of(text: str, begins: int, ends: int) -> Call | None:
@@ -66,7 +66,7 @@ def call_of(text: str, begins: int, ends: int) -> Call | None:
     name, arguments, result = parts[1], parts[2], int(parts[3])
     descriptor = DESCRIPTOR.match(arguments) if name != "openat" else None
     rest = arguments[descriptor.end():] if descriptor else arguments
-    data = b"".join(plain(it) for it in TEXT.findall(rest))
+    data = b"".join(plain(part) for part in TEXT.findall(rest))
     fd, place = (int(descriptor[1]), named(descriptor[2])) if descriptor else (result, "")
     if name == "openat":
         place = data.decode(errors="replace")
@@ -135,7 +135,7 @@ def is_whole(path: pathlib.Path, process: str) -> bool:
     with path.open("rb") as file:
         file.seek(max(0, os.fstat(file.fileno()).st_size - 4096))
         tail = file.read().decode(errors="replace").splitlines()
-    return any(it.startswith(process) and "+++ exited" in it for it in tail)
+    return any(line.startswith(process) and "+++ exited" in line for line in tail)
 
 
 def is_there() -> bool:

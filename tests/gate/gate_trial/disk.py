@@ -27,12 +27,12 @@ class File:
 
     def content(self, moment: int = NEVER) -> bytes:
         """Returns what the system has of the file at a moment."""
-        found = bytearray()
+        content = bytearray()
         for place, at, data in self.changes:
             if place > moment:
                 break
-            found[at:] = data or b""
-        return bytes(found)
+            content[at:] = data or b""
+        return bytes(content)
 
     def synced(self, moment: int) -> bytes:
         """Returns what is on the disk for certain at a moment."""
@@ -44,13 +44,13 @@ class File:
 
     def lengths(self, begin: int, end: int) -> list[int]:
         """Lists lengths between two: about each end of a line between them, and in the middle of each line."""
-        data, found = self.content(), {begin, end}
+        data, lengths = self.content(), {begin, end}
         at = begin
         while at < end:
             after = data.find(b"\n", at) + 1 or end
-            found |= {at + 1, (at + after) // 2, after - 1, after}
+            lengths |= {at + 1, (at + after) // 2, after - 1, after}
             at = after
-        return sorted(it for it in found if begin <= it <= end)
+        return sorted(length for length in lengths if begin <= length <= end)
 
 
 @dataclass
@@ -65,11 +65,11 @@ class Folder:
 
     def now(self, count: int = NEVER) -> dict[str, File]:
         """Returns the files by their names after so many changes."""
-        found: dict[str, File] = {}
+        files: dict[str, File] = {}
         for _, old, new, file in self.names[:count]:
-            found.pop(old, None)
-            found[new] = file
-        return found
+            files.pop(old, None)
+            files[new] = file
+        return files
 
     def done(self, moment: int) -> int:
         """Counts the changes up to a moment."""
@@ -102,8 +102,8 @@ class Disk:
         elif call.name == "close":
             self.open.pop(call.fd, None)
         elif call.name in SYNCS and call.result == 0:
-            if (it := self.open.get(call.fd) or self.folders.get(call.place)) is not None:
-                it.syncs.append((call.begins, call.ends))
+            if (target := self.open.get(call.fd) or self.folders.get(call.place)) is not None:
+                target.syncs.append((call.begins, call.ends))
         elif file := self.open.get(call.fd):
             if call.name in WRITES and call.result > 0:
                 file.write(call.sent(), call.ends)
@@ -137,8 +137,8 @@ class Disk:
 
     def files(self) -> list[File]:
         """Lists the files of the journal, the oldest first."""
-        found: list[File] = []
+        distinct: list[File] = []
         for *_, file in self.journal.names:
-            if not any(it is file for it in found):
-                found.append(file)
-        return found
+            if not any(other is file for other in distinct):
+                distinct.append(file)
+        return distinct

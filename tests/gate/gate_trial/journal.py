@@ -8,6 +8,7 @@ import sys
 import threading
 from collections import Counter
 from collections.abc import Callable
+from functools import partial
 
 from gate_trial.base import SETTINGS, filing, made
 from gate_trial.judging import judge, same
@@ -128,9 +129,7 @@ def rotated(world: World) -> None:
     """The chain goes on in a new file, also after a start, and after two rotations of one day."""
     world.start_gate()
     for name in ("journal-20260101", "journal-20260102"):
-        world.journal.rename(world.folder / name)
-        world.gate.send_signal(signal.SIGHUP)
-        judge("the gate goes on in a new file", until(world.journal.exists))
+        rotate(world, name)
         same("an act after a rotation", world.act("legal", {"act": "lift-hold", "hold": "NONE"})[0], 409)
         same("the chain holds", check(world.journal)[0], 0)
     judge("the new file begins in the middle", json.loads(world.journal.read_bytes().split(b"\n")[0])["line"] > 20)
@@ -171,49 +170,71 @@ def begun(world: World) -> None:
         same(f"{old!r} and {new!r}: the chain holds", check(world.journal)[0], 0)
 
 
+class Beside:
+    """Clients that read, act and file at once, while somebody rotates the journal."""
+
+    def __init__(self, world: World) -> None:
+        self.world, self.turns = world, 0
+        # what each request was, and its status
+        self.done: list[tuple[str, int]] = []
+        kinds: list[tuple[str, Callable[[int], int]]] = []
+        for at in (1, 2):
+            kinds += [("read", partial(self.read, at)), ("read", partial(self.read, at)), ("act", partial(self.place, at)),
+                      ("file", partial(self.file, at))]
+        self.threads = [threading.Thread(target=self.run, args=kind) for kind in kinds]
+
+    def read(self, at: int, _: int) -> int:
+        return self.world.ask("auditor", "GET", f"/records/{at}")[0]
+
+    def place(self, at: int, count: int) -> int:
+        return self.world.act("legal", {"act": "place-hold", "code": f"B{at}-{count}", "reason": "r"})[0]
+
+    def file(self, at: int, count: int) -> int:
+        return self.world.act("records-manager", filing(1000 * at + count, 1, b"z" * 9000))[0]
+
+    def run(self, what: str, ask: Callable[[int], int]) -> None:
+        """Sends requests until there were enough of them, and of rotations."""
+        count = 0
+        while count < EACH or self.turns < LEAST_TURNS and count < MOST:
+            self.done.append((what, ask(count)))
+            count += 1
+
+    def is_going(self) -> bool:
+        return any(thread.is_alive() for thread in self.threads)
+
+    def rotate(self) -> None:
+        """Rotates the journal once some requests are done, and waits until the gate goes on in a new file."""
+        wanted = len(self.done) + 12
+        until(lambda: len(self.done) >= wanted or not self.is_going())
+        rotate(self.world, f"journal-202602{self.turns:04d}")
+        self.turns += 1
+
+
+def rotate(world: World, name: str) -> None:
+    world.journal.rename(world.folder / name)
+    world.gate.send_signal(signal.SIGHUP)
+    judge("the gate goes on in a new file", until(world.journal.exists))
+
+
 def beside(world: World) -> None:
     """Readings, acts, contents, rotations: all at once they leave one chain, with each of them in it."""
     world.start_gate()
-    seen: Counter[tuple[str, int]] = Counter()
-    turns = 0
-
-    def goes_on(count: int) -> bool:
-        return count < EACH or turns < LEAST_TURNS and count < MOST
-
-    def each(what: str, ask: Callable[[int], int]) -> None:
-        count = 0
-        while goes_on(count):
-            seen[what, ask(count)] += 1
-            count += 1
-
-    def client(at: int, other: str) -> list[threading.Thread]:
-        kinds: list[tuple[str, Callable[[int], int]]] = [
-            *[("read", lambda _: world.ask("auditor", "GET", f"/records/{at}")[0])] * 2,
-            ("act", lambda it: world.act("legal", {"act": "place-hold", "code": f"B{at}-{it}", "reason": "r"})[0]),
-            ("file", lambda it: world.act(other, filing(1000 * at + it, 1, b"z" * 9000))[0])]
-        return [threading.Thread(target=each, args=it) for it in kinds]
-
-    threads = [it for at in (1, 2) for it in client(at, "records-manager")]
-    for it in threads:
-        it.start()
-    while any(it.is_alive() for it in threads):
-        # some requests lie between two rotations
-        wanted = seen.total() + 12
-        until(lambda: seen.total() >= wanted or not any(it.is_alive() for it in threads))
-        world.journal.rename(world.folder / f"journal-202602{turns:04d}")
-        world.gate.send_signal(signal.SIGHUP)
-        judge("the gate goes on in a new file", until(world.journal.exists))
-        turns += 1
-    for it in threads:
-        it.join()
-    judge("each was answered, and there were enough of each kind", seen.keys() == {("read", 200), ("act", 200), ("file", 200)}
-          and seen["read", 200] >= 4 * EACH and min(seen.values()) >= 2 * EACH, seen)
+    clients = Beside(world)
+    for thread in clients.threads:
+        thread.start()
+    while clients.is_going():
+        clients.rotate()
+    for thread in clients.threads:
+        thread.join()
+    seen, turns = Counter(clients.done), clients.turns
+    same("each was answered", sorted(seen), [("act", 200), ("file", 200), ("read", 200)])
+    judge("there were enough of each kind", seen["read", 200] >= 4 * EACH and min(seen.values()) >= 2 * EACH, seen)
     world.stop_gate()
-    status, said = check(world.journal)
-    judge(f"the chain holds over {turns} rotations", status == 0 and "from line 1," in said and turns >= LEAST_TURNS,
-          (turns, said))
-    lines = [it for place in [*world.folder.glob("journal-202602*"), world.journal] for it in whole_in(place)]
-    count = Counter(it["request"].split("/")[1] for it in lines if it["what"] in ("asked", "read"))
+    status, text = check(world.journal)
+    judge(f"the chain holds over {turns} rotations", status == 0 and "from line 1," in text and turns >= LEAST_TURNS,
+          (turns, text))
+    lines = [line for path in [*world.folder.glob("journal-202602*"), world.journal] for line in whole_in(path)]
+    count = Counter(line["request"].split("/")[1] for line in lines if line["what"] in ("asked", "read"))
     same("lines of readings and acts", (count["records"], count["acts"]),
          (seen["read", 200], seen["act", 200] + seen["file", 200]))
 

@@ -35,9 +35,9 @@ def tried(folder: pathlib.Path) -> None:
     for act in acts:
         sent(act)
         answered(act)
-    kinds = {it["act"] for act in acts for it in act.asked.entry.get("acts", [])}
+    kinds = {each["act"] for act in acts for each in act.line.entry.get("acts", [])}
     judge("they are of several kinds", len(kinds) >= 12, kinds)
-    judge("one of them is a run that is carried out", any(it.asked.entry["request"] == "POST /run/resume" for it in acts))
+    judge("one of them is a run that is carried out", any(act.line.entry["request"] == "POST /run/resume" for act in acts))
     judge("lines that came together were written together", seen.disk.most_lines >= 4, seen.disk.most_lines)
     unsent(seen)
     printed(seen)
@@ -47,26 +47,27 @@ def tried(folder: pathlib.Path) -> None:
 
 def whole(seen: Seen, files: list[pathlib.Path]) -> None:
     """The trace has all that is in the journal, and each request has its lines."""
-    same("the trace has each byte of the journal", [it.content() for it in seen.disk.files()], [it.read_bytes() for it in files])
-    numbers = [it.entry["line"] for it in seen.lines]
+    same("the trace has each byte of the journal", [file.content() for file in seen.disk.files()],
+         [path.read_bytes() for path in files])
+    numbers = [line.entry["line"] for line in seen.lines]
     same("and each line", numbers, list(range(1, len(numbers) + 1)))
     same("each request that was sent has one line", seen.faults(), [])
 
 
 def sent(act: Act) -> None:
     """The line of a request is on the disk before the office gets a byte of it, and so are the contents it names."""
-    name = f"line {act.asked.number}"
-    judge(f"{name} is written before the office gets a byte", act.asked.written < act.office.sends[0].begins)
-    judge(f"{name} is on the disk before the office gets a byte", act.asked.is_synced_before(act.office.sends[0].begins),
-          (act.asked.synced, act.office.sends[0].begins))
-    if "contents" in act.asked.entry:
+    name = f"line {act.line.number}"
+    judge(f"{name} is written before the office gets a byte", act.line.written < act.office.sends[0].begins)
+    judge(f"{name} is on the disk before the office gets a byte", act.line.is_synced_before(act.office.sends[0].begins),
+          (act.line.synced, act.office.sends[0].begins))
+    if "contents" in act.line.entry:
         judge(f"{name}: its contents are on the disk before the office gets a byte",
               act.contents_synced < act.office.sends[0].begins, (act.contents_synced, act.office.sends[0].begins))
 
 
 def answered(act: Act) -> None:
     """The line of an answer says what the office answered, and is on the disk before the client gets a byte."""
-    name = f"the answer to line {act.asked.number}"
+    name = f"the answer to line {act.line.number}"
     same(f"{name} has one line", len(act.answers), 1)
     if not act.answers:
         return

@@ -57,7 +57,7 @@ def tried(folder: pathlib.Path) -> None:
     seen = Seen(world, world.calls())
     same("each request that was sent has one line", seen.faults(), [])
     promises = promised(seen)
-    judge("there are promises of each kind", {it.why for it in promises} == KINDS, {it.why for it in promises})
+    same("there are promises of each kind", {promise.why for promise in promises}, KINDS)
     cuts = moments(seen.disk)
     judge("the power is cut at many points", len(cuts) >= 60, len(cuts))
     with emptied(folder) as place:
@@ -87,23 +87,23 @@ KINDS = {"the office has it", "the client has its answer", "the vault gets it", 
 
 def promised(seen: Seen) -> list[Promise]:
     """Lists from when on which line counts: once the office, a client, nginx, or a person who reads heads goes by it."""
-    found = []
+    promises = []
     for act in seen.acts():
-        found.append(Promise(act.office.sends[0].begins, act.asked, "the office has it"))
-        found += [Promise(act.client.sends[0].begins, it, "the client has its answer") for it in act.answers]
+        promises.append(Promise(act.office.sends[0].begins, act.line, "the office has it"))
+        promises += [Promise(act.client.sends[0].begins, line, "the client has its answer") for line in act.answers]
     for what, why in (("put", "the vault gets it"), ("stored", "it is in the vault")):
-        found += [Promise(client.sends[0].begins, line, why) for line, client in seen.others(what)]
+        promises += [Promise(client.sends[0].begins, line, why) for line, client in seen.others(what)]
     for number, _, begins in seen.printed():
         line = seen.line(number)
         assert line is not None
-        found.append(Promise(begins, line, "its head is printed"))
-    return found
+        promises.append(Promise(begins, line, "its head is printed"))
+    return promises
 
 
 def moments(disk: Disk) -> list[int]:
     """Lists the moments before each sync of the journal, at which the most is not on the disk, and the end."""
-    syncs = {begins for syncs in [disk.journal.syncs, *(it.syncs for it in disk.files())] for begins, _ in syncs}
-    ends = {place for it in disk.files() for place, _, _ in it.changes}
+    syncs = {begins for syncs in [disk.journal.syncs, *(file.syncs for file in disk.files())] for begins, _ in syncs}
+    ends = {place for file in disk.files() for place, _, _ in file.changes}
     return sorted(syncs) + [max(ends | syncs) + 1]
 
 
@@ -111,17 +111,17 @@ def moments(disk: Disk) -> list[int]:
 
 def laid(disk: Disk, names: int, contents: dict[int, bytes]) -> Names:
     """Returns the files of a journal by their names, after so many changes of names."""
-    return {name: contents[id(it)] for name, it in disk.journal.now(names).items()}
+    return {name: contents[id(file)] for name, file in disk.journal.now(names).items()}
 
 
 def synced(disk: Disk, moment: int) -> Names:
     """Returns what is certain to be on the disk."""
-    return laid(disk, disk.journal.synced(moment), {id(it): it.synced(moment) for it in disk.files()})
+    return laid(disk, disk.journal.synced(moment), {id(file): file.synced(moment) for file in disk.files()})
 
 
 def partly(disk: Disk, moment: int) -> Iterator[Names]:
     """Gives what may be on the disk beside that: each prefix of the names, and of the bytes; or zeros for bytes."""
-    certain_ones = {id(it): it.synced(moment) for it in disk.files()}
+    certain_ones = {id(file): file.synced(moment) for file in disk.files()}
     for names in range(disk.journal.synced(moment), disk.journal.done(moment) + 1):
         yield laid(disk, names, certain_ones)
         for file in disk.files():
@@ -151,15 +151,15 @@ class Room:
 
     def lay(self, names: Names) -> None:
         """Lays a journal down; every second one beside what the gate had noted at its end, which is ahead of it."""
-        for it in (self.journal.parent, self.state):
-            shutil.rmtree(it, ignore_errors=True)
-            it.mkdir()
+        for place in (self.journal.parent, self.state):
+            shutil.rmtree(place, ignore_errors=True)
+            place.mkdir()
         for name, data in names.items():
             (self.journal.parent / name).write_bytes(data)
         self.count += 1
         if self.count % 2:
-            for it in self.world.state.glob("facts.db*"):
-                shutil.copy(it, self.state)
+            for path in self.world.state.glob("facts.db*"):
+                shutil.copy(path, self.state)
 
     def begin(self) -> None:
         """Begins a gate as its service does, up to its first request."""
@@ -176,7 +176,7 @@ class Room:
 
     def check(self, promises: list[Promise]) -> str:
         """Checks the chain with the heads that count, and returns what is wrong with it."""
-        heads = {chain.Head(it.line.number, it.line.sha256) for it in promises}
+        heads = {chain.Head(promise.line.number, promise.line.sha256) for promise in promises}
         try:
             checking.check(chain.files_of(self.journal), heads)
         except Refused as refused:
@@ -185,7 +185,7 @@ class Room:
 
     def lines(self) -> list[bytes]:
         """Returns all that lies between two LFs."""
-        return [it for path in self.journal.parent.iterdir() for it in path.read_bytes().split(b"\n") if it]
+        return [line for path in self.journal.parent.iterdir() for line in path.read_bytes().split(b"\n") if line]
 
 
 def ended(gate: Gate) -> None:
@@ -196,72 +196,73 @@ def ended(gate: Gate) -> None:
 
 
 def certain(room: Room, seen: Seen, promises: list[Promise], moment: int, what: str) -> None:
-    due = [it for it in promises if it.begins < moment]
+    due = [promise for promise in promises if promise.begins < moment]
     same(what, wrong_with(room, synced(seen.disk, moment), due), "")
     same(f"{what}: the contents of what the office has", missing(seen, due, moment), [])
 
 
 def torn(room: Room, seen: Seen, promises: list[Promise], moment: int, what: str) -> None:
-    due = [it for it in promises if it.begins < moment]
-    faults = [wrong_with(room, it, due) for it in partly(seen.disk, moment)]
-    same(what, [it for it in faults if it], [])
+    due = [promise for promise in promises if promise.begins < moment]
+    faults = [wrong_with(room, names, due) for names in partly(seen.disk, moment)]
+    same(what, [fault for fault in faults if fault], [])
 
 
 def wrong_with(room: Room, names: Names, due: list[Promise]) -> str:
     """Lays a journal down, begins a gate on it, and returns what is wrong with what comes of that."""
     room.lay(names)
-    digests_here = {chain.digest(it) for it in room.lines()}
-    for it in due:
-        if it.line.sha256 not in digests_here:
-            return f"line {it.line.number} is not there, and {it.why}: {[(name, len(data)) for name, data in names.items()]}"
+    digests_here = {chain.digest(line) for line in room.lines()}
+    for promise in due:
+        if promise.line.sha256 not in digests_here:
+            sizes = {name: len(data) for name, data in names.items()}
+            return f"line {promise.line.number} is not there, and {promise.why}: {sizes}"
     try:
         room.begin()
     except (Exception, SystemExit) as error:
         return f"no gate begins: {error!r}"
-    entries = [entry for it in room.lines() if (entry := chain.entry_of(chain.Line(room.journal, 0, it, True)))]
-    asked = sorted(it["line"] for it in entries if it["what"] == "asked")
-    if asked != sorted(it["of"] for it in entries if it["what"] == "answered"):
-        return f"of the lines {asked} not each has one answer"
+    entries = [entry for line in room.lines() if (entry := chain.entry_of(chain.Line(room.journal, 0, line, True)))]
+    sent = sorted(entry["line"] for entry in entries if entry["what"] == "asked")
+    if sent != sorted(entry["of"] for entry in entries if entry["what"] == "answered"):
+        return f"of the lines {sent} not each has one answer"
     return room.check(due)
 
 
 def missing(seen: Seen, due: list[Promise], moment: int) -> list[str]:
     """Lists the lines whose contents the disk does not have, of those that the office got and took."""
     folder = seen.disk.contents
-    names, found = folder.now(folder.synced(moment)), []
-    for it in due:
-        entry = it.line.entry
-        if it.why != "the office has it" or "contents" not in entry or not was_taken(seen, it.line):
+    names, lines = folder.now(folder.synced(moment)), []
+    for promise in due:
+        entry = promise.line.entry
+        if promise.why != "the office has it" or "contents" not in entry or not was_taken(seen, promise.line):
             continue
         file, at = names.get(entry["contents"]["day"]), entry["contents"]["from"]
         contents = [act["content"] for act in entry["acts"] if "content" in act]
         data = file.synced(moment)[at:] if file else b""
         if digests(data, [each["bytes"] for each in contents]) != [each["sha256"] for each in contents]:
-            found.append(f"line {it.line.number}")
-    return found
+            lines.append(f"line {promise.line.number}")
+    return lines
 
 
 def was_taken(seen: Seen, line: Line) -> bool:
     """Reports whether the office did all of a list, so that the gate freed none of its contents."""
-    return any(it.entry["of"] == line.number and it.entry["status"] == 200 for it in seen.of("answered"))
+    return any(answer.entry["of"] == line.number and answer.entry["status"] == 200 for answer in seen.of("answered"))
 
 
 def begun(room: Room, seen: Seen, promises: list[Promise], moment: int) -> None:
     """A gate starts on what a cut leaves, its command finds the chain whole, and it acts."""
-    due, disk = [it for it in promises if it.begins < moment], seen.disk
+    due, disk = [promise for promise in promises if promise.begins < moment], seen.disk
     *_, names = partly(disk, moment)
     world = World(room.folder / f"start-{moment}", SETTINGS)
     world.port = room.world.port
     for name, data in names.items():
         (world.folder / name).write_bytes(data)
-    for it in room.world.state.glob("facts.db*"):
-        shutil.copy(it, world.state)
+    for path in room.world.state.glob("facts.db*"):
+        shutil.copy(path, world.state)
     world.start_gate()
     same("after a cut: an act", world.act("legal", placing(f"S{moment}"))[0], 200)
-    (world.folder / "heads").write_text("\n".join(it.line.head for it in due))
+    (world.folder / "heads").write_text("\n".join(promise.line.head for promise in due))
     done = world.check("--heads", world.folder / "heads")
     judge("after a cut: the chain has each head", done.returncode == 0, done.stderr)
-    same("after a cut: and compares all of them", count_of(done.stdout), len({it.line.number for it in due}))
+    same("after a cut: and compares all of them", count_of(done.stdout), len({promise.line.number for promise in due}))
     world.stop_gate()
     world.log.close()
 

@@ -45,14 +45,14 @@ class Conversation:
     receives: list[Call] = field(default_factory=list)
 
     def sent(self) -> bytes:
-        return b"".join(it.sent() for it in self.sends)
+        return b"".join(call.sent() for call in self.sends)
 
     def received(self) -> bytes:
-        return b"".join(it.sent() for it in self.receives)
+        return b"".join(call.sent() for call in self.receives)
 
     def last_received(self) -> int:
         """Returns when the last bytes came, or the end of the connection."""
-        return max(it.ends for it in self.receives)
+        return max(call.ends for call in self.receives)
 
     def answer(self) -> tuple[int, bytes]:
         """Returns the status and the body of what was sent to a client."""
@@ -92,7 +92,7 @@ def identity(request: str, key: str, acts: list[dict[str, Any]] | None) -> str:
 class Act:
     """A request that acts: its line, those of its answer, and the two conversations."""
 
-    asked: Line
+    line: Line
     answers: list[Line]
     office: Conversation
     client: Conversation
@@ -111,7 +111,7 @@ class Act:
         """Returns what the journal has to say of the answer."""
         status, body = self.wanted_answer()
         value = json.loads(body)
-        line = {"what": "answered", "of": self.asked.number, "status": status}
+        line = {"what": "answered", "of": self.line.number, "status": status}
         line |= {"answers": value} if isinstance(value, list) else {"answer": value}
         return line if self.office_answer() else line | {"known": False}
 
@@ -121,7 +121,7 @@ class Seen:
 
     def __init__(self, world: Traced, calls: list[Call]) -> None:
         self.disk = Disk(calls, world.journal, world.state / "contents", world.turns)
-        self.lines = [line for it in self.disk.files() for line in lines_of(it)]
+        self.lines = [line for file in self.disk.files() for line in lines_of(file)]
         self.office, self.clients = list[Conversation](), list[Conversation]()
         self.heads: list[Call] = []
         self.talks(calls, f"->127.0.0.1:{world.port}]", f',"{world.place}"]')
@@ -151,59 +151,59 @@ class Seen:
     # ---- lines
 
     def of(self, what: str) -> list[Line]:
-        return [it for it in self.lines if it.entry["what"] == what]
+        return [line for line in self.lines if line.entry["what"] == what]
 
     def line(self, number: int) -> Line | None:
-        return next((it for it in self.lines if it.number == number), None)
+        return next((line for line in self.lines if line.number == number), None)
 
     def printed(self) -> list[tuple[int, str, int]]:
         """Lists the heads that the gate printed: number, text, and when."""
-        heads = [(it.data.removeprefix(PRINTED).decode().strip(), it.begins) for it in self.heads]
+        heads = [(call.data.removeprefix(PRINTED).decode().strip(), call.begins) for call in self.heads]
         return [(int(text.partition(":")[0]), text, begins) for text, begins in heads]
 
     # ---- acts
 
     def office_requests(self) -> dict[str, list[Conversation]]:
         """Returns what acts at the office, by request, key and acts."""
-        found: dict[str, list[Conversation]] = {}
-        for it in self.office:
-            data = it.sent()
+        requests: dict[str, list[Conversation]] = {}
+        for talk in self.office:
+            data = talk.sent()
             if data.startswith(b"POST "):
                 body = data.partition(b"\r\n\r\n")[2]
                 acts = [noted(act) for act in json.loads(body)] if body else None
-                found.setdefault(identity(request_of(data), header(data, "idempotency-key"), acts), []).append(it)
-        return found
+                requests.setdefault(identity(request_of(data), header(data, "idempotency-key"), acts), []).append(talk)
+        return requests
 
     def client_requests(self, line: Line) -> list[Conversation]:
         """Lists the clients whose request a line is of: by path, name, key, and the digest of the body."""
-        return [it for it in self.clients if is_of(line, it.received())]
+        return [talk for talk in self.clients if is_of(line, talk.received())]
 
     def faults(self) -> list[str]:
         """Lists what has not one line, one request to the office, and one client."""
-        office, found = self.office_requests(), []
+        office, faults = self.office_requests(), []
         for line in self.of("asked"):
             sent = office.pop(identity_of(line), [])
             if len(sent) != 1 or len(self.client_requests(line)) != 1:
-                found.append(f"line {line.number}: {len(sent)} at the office, {len(self.client_requests(line))} clients")
-        return found + [f"no line: {it}" for it in office]
+                faults.append(f"line {line.number}: {len(sent)} at the office, {len(self.client_requests(line))} clients")
+        return faults + [f"no line: {request}" for request in office]
 
     def acts(self) -> list[Act]:
         """Lists the requests that the office got."""
-        office, found = self.office_requests(), []
+        office, acts = self.office_requests(), []
         for line in self.of("asked"):
             sent, clients = office.get(identity_of(line), []), self.client_requests(line)
             if len(sent) == len(clients) == 1:
-                answers = [it for it in self.of("answered") if it.entry["of"] == line.number]
-                found.append(Act(line, answers, sent[0], clients[0], self.contents_synced(line)))
-        return found
+                answers = [other for other in self.of("answered") if other.entry["of"] == line.number]
+                acts.append(Act(line, answers, sent[0], clients[0], self.contents_synced(line)))
+        return acts
 
     def contents_synced(self, line: Line) -> int:
         """Returns from when on the contents that a line names are on the disk."""
         if "contents" not in line.entry:
             return -1
         file = self.disk.contents.now().get(line.entry["contents"]["day"])
-        wanted = [it["content"]["sha256"] for it in line.entry["acts"] if "content" in it]
-        lengths = [it["content"]["bytes"] for it in line.entry["acts"] if "content" in it]
+        wanted = [act["content"]["sha256"] for act in line.entry["acts"] if "content" in act]
+        lengths = [act["content"]["bytes"] for act in line.entry["acts"] if "content" in act]
         for place, at, data in file.changes if file else []:
             if data is not None and at == line.entry["contents"]["from"] and digests(data, lengths) == wanted:
                 assert file is not None
@@ -218,11 +218,11 @@ class Seen:
 
 def digests(data: bytes, lengths: list[int]) -> list[str]:
     """Returns the digests of parts of so many bytes each, which follow one another."""
-    found = []
+    sums = []
     for length in lengths:
-        found.append(hashlib.sha256(data[:length]).hexdigest())
+        sums.append(hashlib.sha256(data[:length]).hexdigest())
         data = data[length:]
-    return found
+    return sums
 
 
 def identity_of(line: Line) -> str:
@@ -245,9 +245,9 @@ def is_of(line: Line, data: bytes) -> bool:
 
 def lines_of(file: File) -> list[Line]:
     """Reads the lines of a file of the journal."""
-    found, ends, data = [], 0, file.content()
+    lines, ends, data = [], 0, file.content()
     for text in data.split(b"\n")[:-1]:
         ends += len(text) + 1
         written = min(place for place, at, part in file.changes if at + len(part or b"") >= ends)
-        found.append(Line(json.loads(text), hashlib.sha256(text).hexdigest(), written, file.synced_after(written)))
-    return found
+        lines.append(Line(json.loads(text), hashlib.sha256(text).hexdigest(), written, file.synced_after(written)))
+    return lines

@@ -12,7 +12,7 @@ from typing import Any
 from gate_trial.base import filing, plan
 from gate_trial.booted import Machine, commands
 from gate_trial.judging import judge, same
-from gate_trial.world import today
+from gate_trial.world import today, until
 
 GATE = "office-gate@city"
 CHECK = "office-journal-check@city"
@@ -120,6 +120,11 @@ def restarts(it: Machine) -> int:
     return int(it.run(f"systemctl show -P NRestarts {GATE}")[1])
 
 
+def reported(it: Machine) -> int:
+    """Returns when the gate told the watchdog last, in microseconds as the machine counts."""
+    return int(it.run(f"systemctl show -P WatchdogTimestampMonotonic {GATE}")[1])
+
+
 def started(it: Machine) -> None:
     """The socket starts the gate; a start returns once it answers; wrong settings end it for good, until they are right."""
     same("it tells that it is ready", it.run(f"systemctl show -P Type -P ActiveState {GATE}")[1].split(),
@@ -175,7 +180,8 @@ def watched(it: Machine) -> None:
     place = f"/run/systemd/system/{GATE}.service.d"
     it.done(f"mkdir -p {place}; printf '[Service]\\nWatchdogSec=4\\n' > {place}/short.conf; systemctl daemon-reload; "
             f"systemctl restart {GATE}", "a shorter watchdog")
-    time.sleep(6)
+    began = reported(it)
+    judge("it tells the watchdog for longer than that", until(lambda: reported(it) > began + 6_000_000))
     same("it tells the watchdog in time", restarts(it), 0)
     it.done(f"kill -STOP $(systemctl show -P MainPID {GATE})", "it hangs")
     began = time.monotonic()

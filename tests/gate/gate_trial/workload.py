@@ -16,8 +16,8 @@ from gate_trial.calls import Traced
 from gate_trial.judging import same
 from gate_trial.world import HERE, TOKEN, parted, today
 
-NAMES = "".join(f"name {it} is {it}\n" for it in ("registry", "legal", "auditor", "archive"))
-NAMES += "".join(f"name {it} is records-manager\n" for it in ("records-manager", "anna", "berta"))
+NAMES = "".join(f"name {name} is {name}\n" for name in ("registry", "legal", "auditor", "archive"))
+NAMES += "".join(f"name {name} is records-manager\n" for name in ("records-manager", "anna", "berta"))
 SETTINGS = f"{ROLES}{NAMES}limit requests 64\nlimit lists 8\n"
 CONTENT = b"what is filed " * 40
 SECONDS = 120
@@ -48,12 +48,12 @@ class Client:
 
     def acts(self, name: str, *acts: dict[str, Any]) -> bytes:
         """Writes a request with a list of acts."""
-        given = [{"day": today(), **it} if it["act"] != "run-step" else it for it in acts]
+        given = [{"day": today(), **act} if act["act"] != "run-step" else act for act in acts]
         return self.request(name, "POST", "/acts", json.dumps(given).encode())
 
     def request(self, name: str, method: str, path: str, body: bytes | None = None, **more: str) -> bytes:
         self.count += 1
-        lines = self.lines(name, {it.replace("_", "-"): value for it, value in more.items()})
+        lines = self.lines(name, {key.replace("_", "-"): value for key, value in more.items()})
         if method == "POST":
             lines |= {"Idempotency-Key": f"key-{self.count}", "Content-Length": str(len(body or b""))}
         head = "".join(f"{key}: {value}\r\n" for key, value in lines.items())
@@ -71,7 +71,7 @@ class Client:
     def at_once(self, wanted: dict[int, int], requests: list[bytes]) -> None:
         """Sends requests while the gate stands still, so that it finds all of them together."""
         with stopped(self.world):
-            links = [self.world.connected(it) for it in requests]
+            links = [self.world.connected(request) for request in requests]
         counts: dict[int, int] = {}
         for link in links:
             status, _ = parted(received(link))
