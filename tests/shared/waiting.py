@@ -10,7 +10,7 @@ STEP = 0.02
 
 
 def comes(event: Callable[[], object], seconds: float = SECONDS) -> bool:
-    """Waits for an event, and returns whether it came within the seconds, after which it does not come on a busy machine either."""
+    """Waits for an event, and returns whether it came; after as many seconds it does not come on a busy machine either."""
     until = time.monotonic() + seconds
     while not event():
         if time.monotonic() > until:
