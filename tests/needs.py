@@ -39,9 +39,9 @@ NEEDS = {
     "h11": Need("python3-h11", modules="h11"),
     "jsonschema": Need("python3-jsonschema python3-yaml", modules="jsonschema yaml"),
     "lint": Need("pyflakes3 mypy shellcheck nodejs node-typescript nftables logrotate fail2ban prometheus "
-                 "groff mandoc libxml2-utils systemd dpkg-dev",
+                 "groff systemd dpkg-dev gcc",
                  "pyflakes3 mypy shellcheck node tsc nft logrotate fail2ban-regex promtool "
-                 "groff mandoc xmllint systemd-analyze dpkg-parsechangelog"),
+                 "groff systemd-analyze dpkg-parsechangelog gcc"),
     "miller": Need("miller", "mlr"),
     "nginx": Need("nginx libnginx-mod-http-js libnginx-mod-http-auth-pam apache2-utils", "nginx htpasswd",
                   files="/usr/lib/nginx/modules/ngx_http_js_module.so /usr/lib/nginx/modules/ngx_http_auth_pam_module.so"),

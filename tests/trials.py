@@ -4,9 +4,7 @@ from runner import Trial
 GATE = "program root aiohttp h11 sqlite3 openssl"
 VAULT = "program root sqlite3 openssl curl"
 PAGE = "program root nginx openssl sqlite3 chromium jsonschema nodejs"
-# commands that plant mistakes, and report whether a trial sees each
-PLANTED = ("tests/gate/mutants", "tests/vault/mutants", "tests/transfer/mutants", "tests/intake/mutants",
-           "tests/web/mutants", "tests/replicas_mutants")
+LINT = "lint nginx openssl aiohttp h11 jsonschema"
 
 
 def parts_of(command: str, required: str, **limits: int) -> list[Trial]:
@@ -15,10 +13,9 @@ def parts_of(command: str, required: str, **limits: int) -> list[Trial]:
 
 
 CHECKS = [
-    Trial("tests/lint/run", "each file is well formed: types, units, sites, texts, pages of the manual", needs="lint nginx openssl aiohttp h11 jsonschema", limit=600),
+    Trial("tests/lint/run", "each file is well formed, and planted mistakes still apply", needs=LINT, limit=900),
     Trial("tests/runner_trial", "trials are run, judged and skipped as they should be", needs="", limit=120),
     Trial("tests/mutants/applies", "each mutant can still be applied", needs="", limit=60),
-    *(Trial(f"{command} --applies", "each planted mistake can still be planted", needs="", limit=60) for command in PLANTED),
     Trial(".ci/commands.py check", "README.md has the commands of the program", needs="", limit=60),
     Trial("tests/links", "each link of the pages leads somewhere", needs="", limit=60),
     Trial("tests/queries", "the texts and queries of TABLES.md are right", needs="sqlite3", limit=60),
@@ -30,6 +27,7 @@ LANDING = [
     *parts_of("tests/vault/run", VAULT, forms=60, answers=120, hostile=120, guards=240),
     Trial("tests/transfer/run odd again gone wrong lists seals keys forged", "bags, lists of receipts, seals",
           needs="program xmllint openssl faketime sqlite3", limit=600),
+    Trial("tests/lint/broken", "a file of each kind is broken, and its check sees it", needs=LINT, limit=900),
     Trial("tests/import/run", "a sheet is imported twice", limit=180),
     Trial("tests/intake/run", "a folder and a mailbox come in, and come in again", needs="program nodejs", limit=300),
     Trial("tests/registers/run", "both registers, read back by csv, sqlite3, miller", needs="program miller sqlite3", limit=180),
@@ -58,6 +56,7 @@ TRIALS = [
     Trial("tests/slow_clients", "how long slow clients keep others waiting", "wire", "program", 4),
     Trial("tests/fuzz", "mutated requests and files against a model", "wire", "program", 48),
     Trial("tests/acts/run", "tools/check says of 411 lists what the program says", "wire"),
+    Trial("tests/lint/broken", "a file of each kind is broken, and its check sees it", needs=LINT, limit=900),
     Trial("tests/import/run", "a sheet is imported twice", "wire words"),
     Trial("tests/import/sheets/run", "tools/convert turns sheets of spreadsheet programs", "wire words"),
     Trial("tests/import/cases/run", "tools/convert and the page turn sheets alike", "wire words web", "nodejs", 1),
