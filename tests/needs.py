@@ -48,6 +48,7 @@ NEEDS = {
     "nodejs": Need("nodejs", "node"),
     "openssl": Need("openssl openssh-client", "openssl ssh-keygen"),
     "poppler": Need("poppler-utils", "pdftotext"),
+    "slowhttptest": Need("slowhttptest e2fsprogs adduser", "slowhttptest chattr adduser"),
     "sqlite3": Need("sqlite3", "sqlite3"),
     "strace": Need("strace", "strace"),
     "time": Need("time", "/usr/bin/time"),

@@ -35,6 +35,7 @@ PARTS = {
     "service": "service, docs/SERVICE.md, docs/BACKUP.md, docs/WATCHING.md",
     "pages": "README.md and docs",
     "web": "web, docs/openapi.yaml, docs/ERRORS.md",
+    "vault": "service/vault, docs/VAULT.md",
     "package": "packaging, service, tools, CHANGELOG.md",
     "replicas": "replicas, service/replicas, docs/REPLICAS.md",
 }

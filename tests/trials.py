@@ -1,10 +1,15 @@
-"""The trials: checks that take seconds, the trials of a landing with their limits, and whole trials, which take hours."""
+"""The trials: checks that take seconds, trials of a landing with their limits, and whole trials, which take hours."""
 from runner import Trial
 
+LINT = "lint nginx openssl aiohttp h11 jsonschema"
 GATE = "program root aiohttp h11 sqlite3 openssl"
 VAULT = "program root sqlite3 openssl curl"
 PAGE = "program root nginx openssl sqlite3 chromium jsonschema nodejs"
-LINT = "lint nginx openssl aiohttp h11 jsonschema"
+TOOLS = "program xmllint openssl faketime sqlite3"
+SITES = "program root spaces nginx booted curl slowhttptest"
+SCRIPTS = "program root sqlite3 age zstd"
+SERVE = "program root spaces sqlite3 strace"
+MEMBERS = "program root spaces etcd h11 strace openssl"
 
 
 def parts_of(command: str, required: str, **limits: int) -> list[Trial]:
@@ -23,29 +28,34 @@ CHECKS = [
 ]
 LANDING = [
     *parts_of("tests/gate/run", GATE, settings=180, roles=180, tricks=180, requests=180, answers=180, eyes=240,
-              alone=300, received=180, classes=180, journal=400, order=300, power=300, ends=180),
+              alone=300, received=180, classes=180, journal=400, ends=180),
+    *parts_of("tests/gate/run", f"{GATE} strace", order=300, power=300),
     *parts_of("tests/vault/run", VAULT, forms=60, answers=120, hostile=120, guards=240),
     Trial("tests/transfer/run odd again gone wrong lists seals keys forged", "bags, lists of receipts, seals",
-          needs="program xmllint openssl faketime sqlite3", limit=600),
+          needs=TOOLS, limit=600),
     Trial("tests/lint/broken", "a file of each kind is broken, and its check sees it", needs=LINT, limit=900),
     Trial("tests/import/run", "a sheet is imported twice", limit=180),
     Trial("tests/intake/run", "a folder and a mailbox come in, and come in again", needs="program nodejs", limit=300),
-    Trial("tests/registers/run", "both registers, read back by csv, sqlite3, miller", needs="program miller sqlite3", limit=180),
-    Trial("tests/yearend/run", "the lists of the year's end go on their day alone", needs="program aiohttp h11 faketime", limit=180),
+    Trial("tests/registers/run", "both registers, read back by others", needs="program miller sqlite3", limit=300),
+    Trial("tests/yearend/run", "lists of the year's end go on their day alone", needs=f"{GATE} faketime", limit=300),
     Trial("tests/acts/run", "tools/check says of lists what the program says", limit=300),
-    Trial("tests/city_archive/http", "the story of the city archive, over HTTP", limit=180),
+    Trial("tests/city_archive/http", "the story of the city archive, over HTTP", limit=300),
     Trial("tests/web/rules 4000", "what the page computes is what the program says", needs="program nodejs", limit=400),
     *parts_of("tests/web/run --rows 200", PAGE, first_day=200, actions=300, importing=600, deciding=300),
-    Trial("tests/office_serve", "a stop of the service loses nothing", needs="program root spaces sqlite3 strace", limit=900),
-    Trial("tests/service_scripts", "the scripts of service on real offices", needs="program root sqlite3 age zstd", limit=900),
-    Trial("tests/nginx/try", "sites, journal, limits and rules of service/nginx", needs="program root spaces nginx booted curl", limit=900),
+    Trial("tests/office_serve", "a stop of the service loses nothing", needs=SERVE, limit=900),
+    Trial("tests/service_scripts", "the scripts of service on real offices", needs=SCRIPTS, limit=900),
+    Trial("tests/nginx/try", "sites, journal, limits and rules of service/nginx", needs=SITES, limit=900),
 ]
 TRIALS = [
     Trial("tests/mutants/applies", "each mutant can still be applied", "contract", "", 1),
     Trial("tests/mutants/try", "the prover refuses each mutant outside of the gate", "contract", "kit"),
     Trial("tests/links", "each link of the pages leads somewhere", "pages", "", 1),
-    Trial("tests/queries", "the texts and queries of TABLES.md are right", "pages tables", "", 1),
-    Trial("tests/refused_allocations", "each allocation of an act or a reading refused: nothing changes", "memory", "kit"),
+    Trial("tests/queries", "the texts and queries of TABLES.md are right", "pages tables", "sqlite3", 1),
+    Trial("tests/lint/run", "each file is well formed", "service pages web package replicas", LINT, 1),
+    Trial("tests/lint/broken", "a file of each kind is broken, and its check sees it", "", LINT, 2),
+    Trial("tests/runner_trial", "trials are run, judged and skipped as they should be", "", "", 1),
+    Trial("tests/refused_allocations", "each allocation of an act or a reading refused: nothing changes", "memory",
+          "kit"),
     Trial("tests/full_limits", "each limit is reached, and the next thing refused", "memory tables", "program", 1),
     Trial("tests/other_tables", "other tables in an office's file stay as they are", "tables", "program", 4),
     Trial("tests/disks", "all commands do the same on each disk of OFFICE_DISK", "words tables", "program strace", 1),
@@ -55,35 +65,43 @@ TRIALS = [
     Trial("tests/stopped_service", "a service that is stopped and continued loses nothing", "wire", "program", 2),
     Trial("tests/slow_clients", "how long slow clients keep others waiting", "wire", "program", 4),
     Trial("tests/fuzz", "mutated requests and files against a model", "wire", "program", 48),
-    Trial("tests/acts/run", "tools/check says of 411 lists what the program says", "wire"),
-    Trial("tests/lint/broken", "a file of each kind is broken, and its check sees it", needs=LINT, limit=900),
+    Trial("tests/acts/run", "tools/check says of lists what the program says", "wire"),
     Trial("tests/import/run", "a sheet is imported twice", "wire words"),
     Trial("tests/import/sheets/run", "tools/convert turns sheets of spreadsheet programs", "wire words"),
     Trial("tests/import/cases/run", "tools/convert and the page turn sheets alike", "wire words web", "nodejs", 1),
-    Trial("tests/acts_from_sheets/run", "random sheets of acts against a model of the office", "wire words", "program", 3),
-    Trial("tests/intake/run", "a folder and a mailbox come in, and come in again", "wire", "program"),
-    Trial("tests/yearend/run", "the lists of the year's end go on their day alone", "wire service", "program"),
-    Trial("tests/registers/run", "both registers, read back by csv, sqlite3, miller", "wire words", "program miller sqlite3"),
+    Trial("tests/acts_from_sheets/run", "random sheets of acts against a model of the office", "wire words",
+          "program", 3),
+    Trial("tests/intake/run", "a folder and a mailbox come in, and come in again", "wire", "program nodejs"),
+    Trial("tests/intake/mutants", "wrong tools are found by the trial before", "wire", "program nodejs"),
+    Trial("tests/yearend/run", "the lists of the year's end go on their day alone", "wire service", f"{GATE} faketime"),
+    Trial("tests/registers/run", "both registers, read back by others", "wire words", "program miller sqlite3"),
     Trial("tests/city_archive/run", "the story of the city archive, by commands", "words"),
     Trial("tests/city_archive/http", "the story of the city archive, over HTTP", "wire words"),
-    Trial("tests/pages", "the commands of the pages do what they say", "words service pages replicas", "program root spaces nginx etcd age zstd"),
-    Trial("tests/launcher/run", "previews, the demo and the build of ./office; --kit: a fresh clone", "words web", "program root spaces sqlite3 chromium", 3),
-    Trial("tests/service_scripts", "the scripts of service on real offices", "service", "program root sqlite3 age zstd", 3),
-    Trial("tests/office_serve", "a stop of the service loses nothing", "service words", "program root spaces sqlite3 strace", 5),
-    Trial("tests/transfer/run", "bags, packages, receipts of a list, seals of certificates", "service", "program xmllint openssl faketime sqlite3", 8),
-    Trial("tests/transfer/mutants", "wrong tools and services are found by the trial before", "service", "program xmllint openssl faketime sqlite3", 25),
-    Trial("tests/nginx/try", "sites, journal, limits and rules of service/nginx", "service", "program root spaces nginx booted curl slowhttptest"),
+    Trial("tests/pages", "the commands of the pages do what they say", "words service pages replicas",
+          "program root spaces nginx etcd age zstd"),
+    Trial("tests/launcher/run", "previews, the demo and the build of ./office; --kit: a fresh clone", "words web",
+          "program root spaces sqlite3 chromium", 3),
+    Trial("tests/service_scripts", "the scripts of service on real offices", "service", SCRIPTS, 3),
+    Trial("tests/office_serve", "a stop of the service loses nothing", "service words", SERVE, 5),
+    Trial("tests/transfer/run", "bags, packages, receipts of a list, seals of certificates", "service", TOOLS, 8),
+    Trial("tests/transfer/mutants", "wrong tools and services are found by the trial before", "service", TOOLS, 25),
+    Trial("tests/nginx/try", "sites, journal, limits and rules of service/nginx", "service", SITES),
     Trial("tests/web/rules", "what the page computes is what the program says", "words wire web", "program nodejs", 1),
     Trial("tests/web/run", "the page in a browser, and openapi.yaml", "web wire", f"{PAGE} firefox poppler"),
     Trial("tests/web/mutants", "the trial of the page sees mistakes that are planted", "web", PAGE, 5),
-    Trial("tests/package/run", "the package, on a small Debian of its own", "package service", "program root booted"),
-    Trial("tests/gate/run", "who may do what at a gate, and that its journal gives the file", "service", f"{GATE} nginx chromium booted faketime gcc", 60),
-    Trial("tests/gate/mutants", "the trial of the gate sees mistakes that are planted", "service", f"{GATE} nginx faketime gcc strace", 15),
-    Trial("tests/vault/run", "the vault keeps what records name, and nothing else", "service vault", f"{VAULT} nginx nodejs booted", 60),
-    Trial("tests/vault/mutants", "the trial of the vault sees mistakes that are planted", "vault", f"{VAULT} nginx nodejs", 25),
+    Trial("tests/package/run", "the package, on a small Debian of its own", "package service", "program root booted",
+          None, space="machine"),
+    Trial("tests/gate/run", "who may do what at a gate, and that its journal gives the file", "service",
+          f"{GATE} nginx chromium booted faketime gcc strace", 60, space="machine"),
+    Trial("tests/gate/mutants", "the trial of the gate sees mistakes that are planted", "service",
+          f"{GATE} nginx faketime gcc strace", 15),
+    Trial("tests/vault/run", "the vault keeps what records name, and nothing else", "service vault",
+          f"{VAULT} nginx nodejs booted", 60, space="machine"),
+    Trial("tests/vault/mutants", "the trial of the vault sees mistakes that are planted", "vault",
+          f"{VAULT} nginx nodejs", 25),
     Trial("tests/replicas_package", "three machines with the packages, one lost, certificates renewed",
-          "replicas package service", "program root booted etcd", 10),
+          "replicas package service", "program root booted etcd", 10, space="machine"),
     Trial("tests/replicas 500 kills cuts partitions hard", "three machines lose no answered request", "replicas",
-          "program root spaces etcd h11 strace openssl", 60),
-    Trial("tests/replicas_mutants", "the trial of members sees mistakes that are planted", "replicas", "program root spaces etcd h11 strace openssl", 60),
+          MEMBERS, 60),
+    Trial("tests/replicas_mutants", "the trial of members sees mistakes that are planted", "replicas", MEMBERS, 60),
 ]
