@@ -11,6 +11,9 @@ from typing import NamedTuple
 TOP = pathlib.Path(__file__).resolve().parent.parent
 # where commands are looked for: Debian's own Python comes first, since its packages are what the trials use
 PATH = f"/usr/bin:/usr/sbin:/bin:/sbin:{os.environ.get('PATH', '')}"
+# a network of one's own, and processes that end with the first of them
+SPACES = ["unshare", "-n", "-p", "-f", "--kill-child", "--mount-proc"]
+MODULES = "/usr/lib/nginx/modules"
 POLICY = pathlib.Path("/usr/sbin/policy-rc.d")
 SECONDS = 900
 """an installation that takes longer does not end"""
@@ -44,7 +47,7 @@ NEEDS = {
                  "groff systemd-analyze dpkg-parsechangelog gcc"),
     "miller": Need("miller", "mlr"),
     "nginx": Need("nginx libnginx-mod-http-js libnginx-mod-http-auth-pam apache2-utils", "nginx htpasswd",
-                  files="/usr/lib/nginx/modules/ngx_http_js_module.so /usr/lib/nginx/modules/ngx_http_auth_pam_module.so"),
+                  files=f"{MODULES}/ngx_http_js_module.so {MODULES}/ngx_http_auth_pam_module.so"),
     "nodejs": Need("nodejs", "node"),
     "openssl": Need("openssl openssh-client", "openssl ssh-keygen"),
     "poppler": Need("poppler-utils", "pdftotext"),
@@ -60,15 +63,15 @@ NEEDS = {
 @functools.cache
 def has_module(name: str) -> bool:
     """Whether the Python that runs the trials has a module."""
-    done = subprocess.run([shutil.which("python3", path=PATH) or "python3", "-c", f"import {name}"], capture_output=True)
+    python = shutil.which("python3", path=PATH) or "python3"
+    done = subprocess.run([python, "-c", f"import {name}"], capture_output=True)
     return done.returncode == 0
 
 
 @functools.cache
 def has_spaces() -> bool:
     """Whether a trial can have a network and processes of its own here."""
-    done = subprocess.run(["unshare", "-n", "-p", "-f", "--kill-child", "--mount-proc", "ip", "link", "set", "lo", "up"],
-                          capture_output=True)
+    done = subprocess.run([*SPACES, "ip", "link", "set", "lo", "up"], capture_output=True)
     return done.returncode == 0
 
 

@@ -21,9 +21,8 @@ SHARE = re.compile(r"^([\d,]+) of ([\d,]+) found$")
 WRONG = re.compile(r"\s*(FAILED|failed|wrong)\b|[\w./-]+:\d+: ")
 # a trial that cannot be run here ends with this status, and its last line says why
 SKIPPED = 77
-# a network of one's own, and processes that end with the trial
-SPACES = ["unshare", "-n", "-p", "-f", "--kill-child", "--mount-proc",
-          "sh", "-c", 'ip link set lo up; "$@"; exit $?', "sh"]
+# the first process of a trial that has a network and processes of its own
+SPACE = [*needs.SPACES, "sh", "-c", 'ip link set lo up; "$@"; exit $?', "sh"]
 DAY = 86_400
 # the parts of the project after whose change a trial is run, by what is in each
 PARTS = {
@@ -58,12 +57,12 @@ class Trial(NamedTuple):
     def name(self) -> str:
         """The name that a user gives: the folder of the command, with the part if the trial is one part of it."""
         command, *parts = [part for part in self.command.split(" ") if not part.startswith("-") and not part.isdigit()]
-        base = command.removeprefix("tests/").removeprefix("bench/").removeprefix(".ci/").removesuffix("/run").removesuffix(".py")
+        base = re.sub(r"^(tests|bench|\.ci)/|/run$|\.py$", "", command)
         return f"{base}/{parts[0]}" if len(parts) == 1 and self.limit < DAY else base
 
 
 class Outcome(NamedTuple):
-    """The end of a trial: `passed`, `failed` or `skipped`, its last line or the reason, its seconds, its skipped parts."""
+    """The end of a trial: `passed`, `failed` or `skipped`, its last line or the reason, seconds, and skipped parts."""
 
     trial: Trial
     verdict: str
@@ -130,7 +129,7 @@ class Running:
 
     def run_here(self, trial: Trial) -> Outcome:
         """Runs a trial, in a network and with processes of its own if the machine allows them."""
-        own = SPACES if trial.space == "own" and needs.has_spaces() else []
+        own = SPACE if trial.space == "own" and needs.has_spaces() else []
         folder = pathlib.Path(tempfile.mkdtemp(prefix="t", dir=self.logs))
         folder.chmod(0o755)
         environment = {**os.environ, "TMPDIR": str(folder)}
