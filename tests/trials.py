@@ -31,8 +31,8 @@ LANDING = [
               alone=300, received=180, classes=180, journal=400, ends=180),
     *parts_of("tests/gate/run", f"{GATE} strace", order=300, power=300),
     *parts_of("tests/vault/run", VAULT, forms=60, answers=120, hostile=120, guards=240),
-    Trial("tests/transfer/run odd again gone wrong lists seals keys forged", "bags, lists of receipts, seals",
-          needs=TOOLS, limit=600),
+    *parts_of("tests/transfer/run", TOOLS, odd=300, again=300, gone=120, wrong=300, lists=400, seals=400, keys=300,
+              forged=200),
     Trial("tests/lint/broken", "a file of each kind is broken, and its check sees it", needs=LINT, limit=900),
     Trial("tests/import/run", "a sheet is imported twice", limit=180),
     Trial("tests/intake/run", "a folder and a mailbox come in, and come in again", needs="program nodejs", limit=300),
@@ -43,7 +43,8 @@ LANDING = [
     Trial("tests/web/rules 4000", "what the page computes is what the program says", needs="program nodejs", limit=400),
     *parts_of("tests/web/run --rows 200", PAGE, first_day=200, actions=300, importing=600, deciding=300),
     Trial("tests/office_serve", "a stop of the service loses nothing", needs=SERVE, limit=900),
-    Trial("tests/service_scripts", "the scripts of service on real offices", needs=SCRIPTS, limit=900),
+    *parts_of("tests/service_scripts", SCRIPTS, modes=600, backup=600, restore=600, compact=600, catalogue=600,
+              about=600, overdue=600, owner=600, since=600, ends=600, units=600),
     Trial("tests/nginx/try", "sites, journal, limits and rules of service/nginx", needs=SITES, limit=900),
 ]
 TRIALS = [

@@ -18,7 +18,7 @@ JOURNAL = "/var/log/office/town.journal"
 # an office with certificates of two runs
 STORY = "/usr/share/doc/office/examples/city_archive/story.json"
 # the authority of tests/transfer, within the machine
-FILES = [TOP / "tests/transfer" / it for it in ("authority.py", "place.py")]
+FILES = [TOP / "tests/transfer/authority.py"]
 AUTHORITY = """import pathlib, time
 from authority import Authority
 with Authority(pathlib.Path("/root/authority")) as it:
