@@ -66,7 +66,7 @@ def make(name: str) -> str:
             return ""
         # without a sync of each file, dpkg takes a fraction of the time
         words = ["mmdebstrap", "--quiet", "--variant=minbase", "--dpkgopt=force-unsafe-io",
-                 f"--include={PACKAGES[name]}", SUITE, unfinished, MIRROR]
+                 f"--include={PACKAGES[name]}", SUITE, str(unfinished), MIRROR]
         done = subprocess.run(words, stdin=subprocess.DEVNULL, capture_output=True, text=True, check=False)
         if done.returncode:
             unfinished.unlink(missing_ok=True)
