@@ -19,6 +19,8 @@ CHECK = "office-journal-check@city"
 JOURNAL = "/var/log/office/city.journal"
 ACCESS = "/etc/office/city.access"
 COPIES = "/var/lib/office-backups/city"
+OLDER = "/root/older.db"
+"""a copy from before the act past the gate, of which the nights keep none"""
 CURL = ("curl --silent --output /dev/null --write-out '%{http_code}' --cacert /etc/nginx/office/office.crt "
         "--header 'Origin: https://localhost' --user")
 READ = f"{CURL} 'auditor:one for all' https://localhost/city/records/1"
@@ -226,6 +228,7 @@ def compared(it: Machine) -> None:
     """The journal's acts on the copy of before give the copy of now; an act past the gate shows."""
     it.done("systemctl start office-backup@city", "a later copy")
     older, newer = it.run(f"ls {COPIES}/*Z.db")[1].splitlines()
+    it.done(f"cp {older} {OLDER}", "the older copy is kept for later")
     said = it.done(f"office-journal replay {JOURNAL} {older} /root/replayed.db --state /var/lib/office-gate/city "
                    f"--beside {newer}", "replay beside a later copy")
     judge("no row differs", "differences: 0" in said, said)
@@ -286,13 +289,11 @@ def recovered(it: Machine) -> None:
     count = "sqlite3 'file:/var/lib/office/city/office.db?immutable=1' 'SELECT count(*) FROM holds'"
     it.done("systemctl stop office-gate@city.socket office-gate@city office@city", "stopped")
     before = it.run(count)[1]
-    older = it.run(f"ls {COPIES}/*Z.db | head -n 1")[1]
-    it.done(f"office-journal replay {JOURNAL} {older} /root/now.db --state /var/lib/office-gate/city", "the new file")
+    it.done(f"office-journal replay {JOURNAL} {OLDER} /root/now.db --state /var/lib/office-gate/city", "the new file")
     status, said = it.run("office-restore /var/lib/office/city/office.db /root/now.db")
-    if status == 1:
-        # the hold that was placed past the gate is not in it
-        judge("what is missing is told", "PAST" in it.run("cat /var/lib/office/city/*.since")[1], said)
-        it.done("office-restore --since-was-read /var/lib/office/city/office.db /root/now.db", "restored")
+    # the hold that was placed past the gate is not in it
+    judge("what is missing is told", status == 1 and "PAST" in it.run("cat /var/lib/office/city/*.since")[1], (status, said))
+    it.done("office-restore --since-was-read /var/lib/office/city/office.db /root/now.db", "restored")
     it.done("systemctl start office@city office-gate@city.socket office-gate@city", "started")
     same("all holds but the one past the gate", int(it.run(count)[1]) + 1, int(before))
     same("and it answers", it.run(READ)[1], "200")
