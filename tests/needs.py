@@ -14,6 +14,8 @@ PATH = f"/usr/bin:/usr/sbin:/bin:/sbin:{os.environ.get('PATH', '')}"
 # a network of one's own, and processes that end with the first of them
 SPACES = ["unshare", "-n", "-p", "-f", "--kill-child", "--mount-proc"]
 MODULES = "/usr/lib/nginx/modules"
+DEBIAN = "debian:"
+"""how the name of a small Debian begins, as a need"""
 POLICY = pathlib.Path("/usr/sbin/policy-rc.d")
 SECONDS = 900
 """an installation that takes longer does not end"""
@@ -84,7 +86,9 @@ def is_here(name: str) -> bool:
 
 
 def lack(name: str, program: pathlib.Path | None) -> str | None:
-    """Why the machine does not meet a need, or None."""
+    """Why the machine does not meet a need, or None. A trial sees itself whether its small Debian is there."""
+    if name.startswith(DEBIAN):
+        return None
     if name == "root":
         return None if os.geteuid() == 0 else "needs root"
     if name == "kit":
@@ -132,7 +136,25 @@ def apt_get(*arguments: str) -> bool:
     return done.returncode == 0
 
 
-def set_up(names: Iterable[str]) -> None:
+def make_debians(names: Iterable[str]) -> None:
+    """Makes the small Debians that trials boot, unless this week's are there."""
+    wanted = sorted({name.removeprefix(DEBIAN) for name in names if name.startswith(DEBIAN)})
+    if wanted and os.geteuid() == 0 and shutil.which("mmdebstrap", path=PATH):
+        try:
+            subprocess.run([TOP / "tests/debians", "make", *wanted], stdin=subprocess.DEVNULL, timeout=SECONDS,
+                           env={**os.environ, "PATH": PATH})
+        except subprocess.TimeoutExpired:
+            print(f"small Debians were not made in {SECONDS} seconds", flush=True)
+
+
+def set_up(wanted: Iterable[str]) -> None:
+    """Meets these needs as far as this machine allows: packages of Debian, and the small Debians that trials boot."""
+    names = set(wanted)
+    install(names)
+    make_debians(names)
+
+
+def install(names: Iterable[str]) -> None:
     """Installs what these needs lack, and prints each package; without root it prints what to install."""
     packages = missing_packages(names)
     if not packages:

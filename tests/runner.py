@@ -51,14 +51,19 @@ class Trial(NamedTuple):
     needs: str = "program"
     minutes: int | None = None
     limit: int = DAY
-    space: str = "own"
 
     @property
     def name(self) -> str:
         """The name that a user gives: the folder of the command, with the part if the trial is one part of it."""
-        command, *parts = [part for part in self.command.split(" ") if not part.startswith("-") and not part.isdigit()]
+        command, *parts = [part for part in self.arguments if not part.startswith("-") and not part.isdigit()]
         base = re.sub(r"^(tests|bench|\.ci)/|/run$|\.py$", "", command)
         return f"{base}/{parts[0]}" if len(parts) == 1 and self.limit < DAY else base
+
+    @property
+    def arguments(self) -> list[str]:
+        """The command and its arguments, without the variables that it is given."""
+        parts = self.command.split(" ")
+        return [part for part in parts[1:] if "=" not in part] if parts[0] == "env" else parts
 
 
 class Outcome(NamedTuple):
@@ -129,7 +134,7 @@ class Running:
 
     def run_here(self, trial: Trial) -> Outcome:
         """Runs a trial, in a network and with processes of its own if the machine allows them."""
-        own = SPACE if trial.space == "own" and needs.has_spaces() else []
+        own = SPACE if needs.has_spaces() else []
         folder = pathlib.Path(tempfile.mkdtemp(prefix="t", dir=self.logs))
         folder.chmod(0o755)
         environment = {**os.environ, "TMPDIR": str(folder)}

@@ -30,13 +30,18 @@ def added(count: int, before: int) -> list[dict[str, object]]:
     return lines()[before:]
 
 
-def one(path: str, acts: object, name: str = "registrar") -> dict[str, object]:
-    """The one line that a request makes."""
+def sent(path: str, acts: object, name: str = "registrar") -> tuple[place.Answer, dict[str, object]]:
+    """The answer to a request and the one line that it makes."""
     before = len(lines())
-    post(path, acts, name)
+    answer = post(path, acts, name)
     new = added(1, before)
     same("a request makes one line", len(new), 1)
-    return new[0]
+    return answer, new[0]
+
+
+def one(path: str, acts: object, name: str = "registrar") -> dict[str, object]:
+    """The one line that a request makes."""
+    return sent(path, acts, name)[1]
 
 
 def whole(folder: str) -> None:
@@ -71,12 +76,12 @@ def escaped(text: str, word: str) -> str:
 def lifts(folder: str) -> None:
     """A hold is lifted by a list of each form. `grep lift-hold` finds each, with its code and whoever did it."""
     codes = [f"L-{number}" for number in range(9)]
-    same("holds are placed", post(f"{folder}acts", [{**HOLD, "code": code} for code in codes]).status, 200)
+    same("holds are placed", sent(f"{folder}acts", [{**HOLD, "code": code} for code in codes])[0].status, 200)
     filed = [{"act": "add-schedule", "day": "2025-01-02", "code": "D", "trigger": "added", "unit": "days", "count": 1,
               "offset": "none", "action": "destroy"},
              {"act": "add-class", "day": "2025-01-02", "code": "C", "title": "C", "schedule": "D"},
              {"act": "add-aggregation", "day": "2025-01-02", "ref": "a", "title": "A", "class": "C"}, RECORD]
-    same("a record is filed", post(f"{folder}acts", filed).status, 200)
+    same("a record is filed", sent(f"{folder}acts", filed)[0].status, 200)
     confirm = {"act": "confirm", "day": "2025-01-02", "record": 1, "action": "destroy", "by": "x"}
     bodies = {
         "an escaped hyphen": json.dumps([lift(codes[0])]).replace("lift-hold", "lift\\u002dhold"),
@@ -148,8 +153,8 @@ def late(folder: str) -> None:
         answer = post(path, body.encode())
         same(f"{name}: refused", (answer.status, answer.body), (403, b'{"error":"future","place":1}'))
         same(f"{name}: and a line", (added(1, before)[0]["status"], len(lines())), (403, before + 1))
-    same("no act of these lists was done", post(path, [there]).body, b'[{"done":true}]')
-    same("a day that is none is left to the office", post(path, [lift("none", day="9999")]).body,
+    same("no act of these lists was done", sent(path, [there])[0].body, b'[{"done":true}]')
+    same("a day that is none is left to the office", sent(path, [lift("none", day="9999")])[0].body,
          b'{"error":"act","place":0,"refused":2}')
 
 
@@ -168,7 +173,7 @@ def left_out(folder: str) -> None:
         ("nothing", b"", "no list, bytes: 0"),
     ):
         same(f"{name}: the line has that", one(f"{folder}acts", acts)["acts"], wanted)
-    none = post(f"{folder}acts", b"{}")
+    none = sent(f"{folder}acts", b"{}")[0]
     same("what is no list of acts is 400, as by the office", (none.status, none.body), (400, b'{"error":"json"}'))
     long = base64.b64encode(SECRET * 100).decode()
     body = json.dumps([{**RECORD, "ref": "r2", "content": long}]).encode()
