@@ -28,6 +28,10 @@ def help_of_program(*words: str) -> str:
     return done.stderr.decode()
 
 
+# the words of the launcher itself
+OWN = ["demo", "build", "install", "package", "test", "version"]
+
+
 def judge_help(clone: Clone) -> None:
     """Without a program the help is the built program's, and neither it nor the version needs the kit."""
     wanted = help_of_program() + "\nCommands of ./office itself:\n"
@@ -35,7 +39,7 @@ def judge_help(clone: Clone) -> None:
         done = clone.run(f"clone/office {words}", PATH="/usr/bin:/bin")
         judge(f"office {words} shows the help at once", done[:2] == (2, "") and done.err.startswith(wanted), f"{done}")
         own = re.findall(r"^  (\w+)", done.err.removeprefix(wanted), re.M)
-        judge(f"office {words} shows the launcher's own", own == ["demo", "build", "install", "package", "version"], f"{own}")
+        judge(f"office {words} shows the launcher's own", own == OWN, f"{own}")
     last = re.findall(r"^## (\S+) \((\S+)\)$", (TOP / "CHANGELOG.md").read_text(), re.M)[0]
     for words in ("version", "--version"):
         done = clone.run(f"clone/office {words}", PATH="/usr/bin:/bin")
@@ -45,7 +49,12 @@ def judge_help(clone: Clone) -> None:
         for words in (f"help {word.name}", f"{word.name} --help"):
             done = clone.run(f"clone/office {words}", PATH="/usr/bin:/bin")
             judge(f"office {words} shows its help at once", done == kept, f"{done}")
-    for words in ("help build", "build --help", "install -h", "demo --help"):
+    done = clone.run("clone/office test --help", PATH="/usr/bin:/bin")
+    judge("office test --help shows its options", done.status == 0 and "./office test --quick" in done.out, f"{done}")
+    done = clone.run("clone/office test none_such", PATH="/usr/bin:/bin")
+    judge("office test NAME, of no trial: a line says so", done.status == 1 and "no trial of these names" in done.err,
+          f"{done}")
+    for words in ("help build", "build --help", "install -h", "demo --help", "help test"):
         done = clone.run(f"clone/office {words}", PATH="/usr/bin:/bin")
         judge(f"office {words} shows the launcher's commands, and builds nothing", done[:2] == (2, "")
               and done.err.startswith("Commands of ./office itself:\n"), f"{done}")
