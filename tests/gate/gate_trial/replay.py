@@ -13,9 +13,9 @@ import time
 
 from gate_trial.acts import Acts
 from gate_trial.judging import judge
-from gate_trial.world import JOURNAL, OFFICE, PYTHON, World
+from gate_trial.world import JOURNAL, OFFICE, PYTHON, SOURCES, World
 
-sys.path.insert(0, str(JOURNAL.parent))
+sys.path[:0] = [str(JOURNAL.parent), str(SOURCES / "vault")]
 
 from office_gate import chain, journal  # noqa: E402
 from office_gate.contents import Contents, noted  # noqa: E402
