@@ -181,6 +181,8 @@ def paths(world: World) -> None:
               in ("POST /acts", "no request"), world.last("refused"))
     for path in (b"/records/\xff", b"/records/\xed\xa0\x80", b"/records/1\xff/content"):
         wanted(world, f"GET {path!r}", head(first="GET @ HTTP/1.1").replace(b"@", path), 404, 400)
+        shown = path.decode(errors="surrogateescape").encode(errors="backslashreplace").decode()
+        same(f"GET {path!r}: its line is a text", world.last("refused")["request"], f"GET {shown}")
     for path in ("/records/01", "/records/1/", "/records/1/content/", "/records/1%2fcontent", "/records/+1",
                  "/due/2025",
                  "/records/1?x", "/catalogue/records.json", "/records/1/files", "/records/\u0661"):
