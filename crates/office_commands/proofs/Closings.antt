@@ -9,11 +9,11 @@ use Rattle.sqlite_trees.specs.Tree.{Trees}
 use Rattle.sqlite_wal.specs.Recovery.{Image}
 use Rattle.sqlite.specs.Files.{file_state}
 use Rattle.sqlite.specs.Held.{AreDatabases, Held}
-use Rattle.office_life.specs.Tables.{HoldsTables}
+use Rattle.office_life.specs.Tables.{ContainTables}
 use Rattle.office_life.proofs.LeftTables.{leaves_tables}
 
 -- where a store allows nothing but these tables, each image of it holds them
 pub holds_last : {D : Type 0} {g : Ghosts D} (last : FileStore D g) (trees : Trees) → IsTrue (view last).is_numbered → AreDatabases (recovers last) → ((db : Trees) → recovers last db → db ≡ trees) → (image : Image) → (state last).may_leave image
-    → ∥ HoldsTables image trees ∥₁
+    → ∥ ContainTables image trees ∥₁
 holds_last last trees numbered sound only image may =
-    ∥∥₁_map (leaves_tables last numbered sound image may) (λ (db : (x : Trees) × recovers last x × HoldsTables image x). subst (HoldsTables image) (only db.0 db.1) db.2)
+    ∥∥₁_map (leaves_tables last numbered sound image may) (λ (db : (x : Trees) × recovers last x × ContainTables image x). subst (ContainTables image) (only db.0 db.1) db.2)

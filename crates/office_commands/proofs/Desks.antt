@@ -5,7 +5,7 @@ use Rattle.sqlite.specs.State.{HasCleanDisk}
 use Rattle.sqlite_trees.specs.declared.store.Store.{Ghosts}
 use Rattle.office_rules.specs.Rows.{rows_of}
 use Rattle.office_rules.specs.State.{State, empty_state}
-use Rattle.office_store.specs.RepresentsRows.{HoldsRows}
+use Rattle.office_store.specs.RepresentsRows.{ContainsRows}
 use Rattle.office_desk.specs.Desk.{DeskState}
 use Rattle.office_desk.specs.Leaving.{IsAt}
 use Rattle.office_desk.specs.Opening.{Opens}
@@ -32,7 +32,7 @@ module _ {S : Type 0} (g : Ghosts S) (conn : Held S) (desk : DeskState S) (it : 
   pub opened : IsOpened (state g conn) (state g desk.held)
   opened = record {
     clear = it.clear;
-    opened = of_desk desk (λ clean. clean) (λ t. HoldsRows (rows_of t) (state g desk.held)) (λ t clean at. at.rows);
+    opened = of_desk desk (λ clean. clean) (λ t. ContainsRows (rows_of t) (state g desk.held)) (λ t clean at. at.rows);
     same = λ clean rest. (it.finds clean).same rest;
     rest = λ clean. (it.finds clean).rest;
   }

@@ -21,10 +21,10 @@ use Rattle.office_rules.specs.State.{State, empty_state}
 use Rattle.office_store.specs.RepresentsRows.{RepresentsRowsIn}
 use Rattle.office_life.specs.Standing.{IsKnownAt, RestsAt, Stage, StandsAt, half_made, remains_of, stage_after, stored, unmade}
 use Rattle.office_life.specs.declared.reports.Remains.TheVariants as remains
-use Rattle.office_life.specs.Tables.{HoldsTables}
+use Rattle.office_life.specs.Tables.{ContainTables}
 use Rattle.office_life.proofs.LeftTables.{database_of, leaves_tables}
 use Rattle.office_life.proofs.Nothing.{finds_nothing}
-use Rattle.office_commands.specs.FileHistory.{FileHistory, IsFoundNext, IsFoundOf, IsLeftAt, IsLeftKilled, ProgramRun, RunLeads, StateHistory, WasKilled, WasRun, began, led, ran_command, ran_service, remains_left, stayed, went_on}
+use Rattle.office_commands.specs.FileHistory.{FileHistory, IsFoundNext, IsFoundOf, IsLeftAt, IsLeftKilled, ProgramRun, RunLeads, SaysUnopened, StateHistory, WasKilled, WasRun, began, led, ran_command, ran_service, remains_left, stayed, went_on}
 use Rattle.office_commands.specs.Files.{EndsOver, IsClosedCopy, IsLeftOf, IsOpenedFrom, IsUnclosed, IsUnopenedLeft}
 use Rattle.office_commands.specs.Running.{RunEnds}
 use Rattle.office_commands.specs.Serving.{ServiceEnds}
@@ -85,11 +85,11 @@ module _ {D : Type 0} {g : Ghosts D} (was last : Held (FileStore D g)) (Is : Sta
   GoesOn = ∥ ((u : State) × Is u × StandsAt stored next u) ∥₁
 
   -- tables that a crash leaves of the connection, which the files hold
-  goes_on : HasCleanDisk (file_state last) → (db : Trees) → (file_state last).may_leave db → HoldsTables next db → (u : State) × Is u × StandsAt stored next u
+  goes_on : HasCleanDisk (file_state last) → (db : Trees) → (file_state last).may_leave db → ContainTables next db → (u : State) × Is u × StandsAt stored next u
   goes_on clean db may held = let at = leaves clean db may in (at.0, at.1, inl (db, held, tables_at (file_state was) db at.0 at.2))
 
-  closed_at : (it : Files D) → IsClosedCopy last it → (file_state last).may_leave (file_state last).committed.trees → ∥ HoldsTables next (file_state last).committed.trees ∥₁ → GoesOn
-  closed_at it copy stays held = ∥∥₁_map held (λ (h : HoldsTables next (file_state last).committed.trees). goes_on copy.copied.was_clean (file_state last).committed.trees stays h)
+  closed_at : (it : Files D) → IsClosedCopy last it → (file_state last).may_leave (file_state last).committed.trees → ∥ ContainTables next (file_state last).committed.trees ∥₁ → GoesOn
+  closed_at it copy stays held = ∥∥₁_map held (λ (h : ContainTables next (file_state last).committed.trees). goes_on copy.copied.was_clean (file_state last).committed.trees stays h)
 
   unclosed_at : (store : FileStore D g) → IsUnclosed last store → IsFoundNext {g = g} (files.Unclosed store) next → GoesOn
   unclosed_at store it (clean, known, may) =
@@ -97,7 +97,7 @@ module _ {D : Type 0} {g : Ghosts D} (was last : Held (FileStore D g)) (Is : Sta
       let numbered : IsTrue (view store).is_numbered = elim known [ inl on ↦ it.numbered clean on | inr is ↦ is ] in
       let doubted = closed.quiet.clean in
       let was_clean : HasCleanDisk (file_state last) = omega (arith, doubted, clean) in
-      ∥∥₁_map (leaves_tables store numbered (closed.sound clean) next may) (λ (db : (x : Trees) × recovers store x × HoldsTables next x). goes_on was_clean db.0 (closed.quiet.outcomes db.0 db.1) db.2)
+      ∥∥₁_map (leaves_tables store numbered (closed.sound clean) next may) (λ (db : (x : Trees) × recovers store x × ContainTables next x). goes_on was_clean db.0 (closed.quiet.outcomes db.0 db.1) db.2)
 
   pub left_at : (stays : IsTrue (file_state last).is_open → (file_state last).may_leave (file_state last).committed.trees) (left : FilesLeft D g) → IsLeftOf last left → IsFoundNext left next → GoesOn
   left_at stays (files.Unopened rest) it found = absurd it
@@ -106,7 +106,7 @@ module _ {D : Type 0} {g : Ghosts D} (was last : Held (FileStore D g)) (Is : Sta
 
   -- where the process was killed
   pub killed_at : IsLeftKilled last next → AreDatabases (recovers last.store) → GoesOn
-  killed_at it sound = ∥∥₁_map (leaves_tables last.store it.numbered sound next it.left) (λ (db : (x : Trees) × recovers last.store x × HoldsTables next x). goes_on it.clean db.0 db.1 db.2)
+  killed_at it sound = ∥∥₁_map (leaves_tables last.store it.numbered sound next it.left) (λ (db : (x : Trees) × recovers last.store x × ContainTables next x). goes_on it.clean db.0 db.1 db.2)
 
 -- the database at which the connection was at rest is sound
 sound_before : (old : FileState) (s : State) → RestsAt old s → IsSoundDatabase old.now.schema old.now.trees
@@ -125,9 +125,9 @@ are_databases was last s Is rests leaves db may = elim (leaves db may).2 [
 -- ---- one run
 
 -- files that were not opened are left at the same state
-stays_at : (run : ProgramRun) (s : State) → IsLeftAt run s s
-stays_at (ran_command order text written after exit) s = inl refl
-stays_at (ran_service port count written after exit) s = inl refl
+stays_at : (run : ProgramRun) (s : State) → SaysUnopened run → IsLeftAt run s s
+stays_at (ran_command order text written after exit) s says = inl (says, refl)
+stays_at (ran_service port count written after exit) s says = inl (says, refl)
 
 module _ (one : IsOneDatabase) (stay : StaySound) (empty : IsSound empty_state) (ends : IsEnded) {D : Type 0} {g : Ghosts D} where
   -- where a run leaves an office, whatever a crash leaves of its connection
@@ -139,8 +139,8 @@ module _ (one : IsOneDatabase) (stay : StaySound) (empty : IsSound empty_state) 
       let at = service_from one stay empty ends over_files was last s clean rests port count written after exit ended db may in (at.0, inr at.1, at.2)
 
   module _ (run : ProgramRun) (stage : Stage) (image next : Image) where
-    not_opened : (left : FilesLeft D g) → IsUnopenedLeft image left → IsKnownAt stage (remains_left left) → IsFoundNext left next → RunLeads run stage image (stage_after stage (remains_left left)) next
-    not_opened left spared known found s stands = ∥∥₁_map (unopened_at image next stage s stands left spared known found) (λ (at : StandsAt (stage_after stage (remains_left left)) next s). (s, stays_at run s, at))
+    not_opened : SaysUnopened run → (left : FilesLeft D g) → IsUnopenedLeft image left → IsKnownAt stage (remains_left left) → IsFoundNext left next → RunLeads run stage image (stage_after stage (remains_left left)) next
+    not_opened says left spared known found s stands = ∥∥₁_map (unopened_at image next stage s stands left spared known found) (λ (at : StandsAt (stage_after stage (remains_left left)) next s). (s, stays_at run s says, at))
 
     -- the stage is that of files that hold tables
     opened : (last : Held (FileStore D g)) (left : FilesLeft D g) → EndsOver left image (EndedSo run) last → IsLeftOf last left → IsFoundNext left next → RunLeads run stage image stored next
@@ -153,9 +153,9 @@ module _ (one : IsOneDatabase) (stay : StaySound) (empty : IsSound empty_state) 
     after_closing (files.Closed it) last copied = refl
     after_closing (files.Unclosed store) last it = refl
 
-    ended : (left : FilesLeft D g) → IsUnopenedLeft image left ⊎ ((last : Held (FileStore D g)) × EndsOver left image (EndedSo run) last × IsLeftOf last left) → IsKnownAt stage (remains_left left) → IsFoundNext left next
+    ended : (left : FilesLeft D g) → SaysUnopened run × IsUnopenedLeft image left ⊎ ((last : Held (FileStore D g)) × EndsOver left image (EndedSo run) last × IsLeftOf last left) → IsKnownAt stage (remains_left left) → IsFoundNext left next
         → RunLeads run stage image (stage_after stage (remains_left left)) next
-    ended left (inl spared) known found = not_opened left spared known found
+    ended left (inl (says, spared)) known found = not_opened says left spared known found
     ended left (inr (last, over, is_left)) known found = subst (λ (is : Stage). RunLeads run stage image is next) (sym (after_closing left last is_left)) (opened last left over is_left found)
 
     killed : (last : Held (FileStore D g)) → EndsOver (files.Unopened None) image (EndedSo run) last → IsLeftKilled last next → RunLeads run stage image stored next
@@ -166,9 +166,9 @@ module _ (one : IsOneDatabase) (stay : StaySound) (empty : IsSound empty_state) 
 
   pub runs_lead : (run : ProgramRun) (stage : Stage) (image next : Image) (left : FilesLeft D g) → WasRun run image left → IsKnownAt stage (remains_left left) → IsFoundNext left next
       → RunLeads run stage image (stage_after stage (remains_left left)) next
-  runs_lead (ran_command order text written after exit) stage image next left (inl none) = ended (ran_command order text written after exit) stage image next left (inl none.1)
+  runs_lead (ran_command order text written after exit) stage image next left (inl none) = ended (ran_command order text written after exit) stage image next left (inl ((none.0, none.2), none.1))
   runs_lead (ran_command order text written after exit) stage image next left (inr over) = ended (ran_command order text written after exit) stage image next left (inr over)
-  runs_lead (ran_service port count written after exit) stage image next left (inl none) = ended (ran_service port count written after exit) stage image next left (inl none.1)
+  runs_lead (ran_service port count written after exit) stage image next left (inl none) = ended (ran_service port count written after exit) stage image next left (inl ((none.0, none.2), none.1))
   runs_lead (ran_service port count written after exit) stage image next left (inr over) = ended (ran_service port count written after exit) stage image next left (inr over)
 
   pub killed_lead : (run : ProgramRun) (stage : Stage) (image next : Image) (last : Held (FileStore D g)) → WasKilled run image last → IsLeftKilled last next → RunLeads run stage image stored next

@@ -5,7 +5,7 @@ use Rattle.sqlite.specs.State.{State as FileState, HasCleanDisk}
 use Rattle.sqlite_trees.specs.declared.store.Store.{Ghosts}
 use Rattle.office_rules.specs.State.{State}
 use Rattle.office_rules.specs.Rows.{rows_of}
-use Rattle.office_store.specs.RepresentsRows.{HoldsRows}
+use Rattle.office_store.specs.RepresentsRows.{ContainsRows}
 use Rattle.office_store.specs.declared.fault.Fault.{Fault}
 use Rattle.office_store.specs.declared.fault.Fault.TheVariants as fault
 use Rattle.office_desk.specs.Desk.{DeskState}
@@ -27,7 +27,7 @@ row_cut g day u row f desk (inr it) = inr (it.0, it.1, it.2, it.3.1)
 
 cut : {S : Type 0} (g : Ghosts S) (day : ℤ) (text : Option (List ℕ)) (u : State) (rows : List Fields) (f : Fault) (desk : DeskState S)
     → (f ≡ fault.Memory) × ArePrefixRows text rows × IsAt g u desk ⊎ ((row : Fields) × AreSomeRows text (rows ++ row ∷ []) × IsRowStopped g day u row f desk)
-    → (f ≡ fault.Memory) × ArePrefixRows text rows × HoldsRows (rows_of u) (state g desk.held) ⊎ ((row : Fields) × AreSomeRows text (rows ++ row ∷ []) × IsRowCut day u row f (state g desk.held))
+    → (f ≡ fault.Memory) × ArePrefixRows text rows × ContainsRows (rows_of u) (state g desk.held) ⊎ ((row : Fields) × AreSomeRows text (rows ++ row ∷ []) × IsRowCut day u row f (state g desk.held))
 cut g day text u rows f desk (inl it) = inl (it.0, it.1, it.2.rows)
 cut g day text u rows f desk (inr it) = inr (it.0, it.1, row_cut g day u it.0 f desk it.2)
 

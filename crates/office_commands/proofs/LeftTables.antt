@@ -11,7 +11,7 @@ use Rattle.sqlite.specs.Files.{IsCleanLeft, IsNothing, LeavesFiles, image_of}
 use Rattle.sqlite.specs.declared.file.Leftover.{Leftover}
 use Rattle.sqlite.specs.declared.file.Leftover.TheVariants as left
 use Rattle.sqlite.proofs.FileLemmas.{is_something}
-use Rattle.office_life.specs.Tables.{HoldsTables}
+use Rattle.office_life.specs.Tables.{ContainTables}
 use Rattle.office_life.proofs.LeftTables.{database_of, stands_same}
 use Rattle.office_life.proofs.Nothing.{finds_nothing}
 use Rattle.office_commands.specs.Tables.{AreTablesIn, KeepsTables, SparesTables}
@@ -28,7 +28,7 @@ module _ {D : Type 0} {g : Ghosts D} where
     }
     | inr some ↦ record {
       held = λ trees held. elim (some.4 later may).same [
-        | inl was ↦ subst (λ (i : Image). HoldsTables i trees) (sym (only later was ∙ sym seen)) held
+        | inl was ↦ subst (λ (i : Image). ContainTables i trees) (sym (only later was ∙ sym seen)) held
         | inr stands ↦ stands_same (state_of now).page_size (image_of g files) later trees held some.1 some.3 stands
       ];
       none = λ none. absurd (some.0 none);

@@ -19,8 +19,8 @@ use Rattle.office_rules.specs.State.{State}
 use Rattle.office_store.specs.RepresentsRows.{RepresentsRowsIn}
 use Rattle.office_command_line.specs.Orders.{Command}
 use Rattle.office_commands.specs.Files.{HeldOffice, IsClosedCopy, IsLeftOf, IsUnclosed, IsUnopenedLeft, RunsInFiles, ServesInFiles}
-use Rattle.office_commands.specs.NextCommand.{HoldsOfficeAt, HoldsWholeOffice, IsLeftBy, IsServedTo, LeavesAt, LeavesFilesAt, StaysOffice}
-use Rattle.office_life.specs.Tables.{HoldsTables, IsOfficeAt}
+use Rattle.office_commands.specs.NextCommand.{ContainOffice, ContainWholeOffice, IsLeftBy, IsServedTo, LeavesAt, LeavesFilesAt, StaysOffice}
+use Rattle.office_life.specs.Tables.{ContainTables, IsOfficeAt}
 use Rattle.office_life.proofs.LeftTables.{database_of, leaves_tables}
 use Rattle.office_commands.specs.Tables.{SparesTables}
 use Rattle.office_commands.specs.declared.exit.Exit.{Exit}
@@ -30,20 +30,20 @@ use Rattle.office_commands.proofs.NextService.{service_left}
 use Rattle.office_commands.proofs.NextStates.{IsEnded, IsOneDatabase, StaySound, command_left}
 
 -- an office of which each page has its sum is one
-pub whole_office : (image : Image) (s : State) → HoldsWholeOffice image s → HoldsOfficeAt image s
-whole_office image s it = record { trees = it.trees; held = ∥∥₁_map it.held (λ (h : HoldsTables image it.trees). database_of image it.trees h); office = it.office }
+pub whole_office : (image : Image) (s : State) → ContainWholeOffice image s → ContainOffice image s
+whole_office image s it = record { trees = it.trees; held = ∥∥₁_map it.held (λ (h : ContainTables image it.trees). database_of image it.trees h); office = it.office }
 
 module _ {D : Type 0} {g : Ghosts D} (old : Image) (s : State) (Is : State → Type 0) where
   -- ---- of files that were not opened
 
-  stays_office : (rest : Leftover D g) → SparesTables old rest → HoldsWholeOffice old s → StaysOffice s rest
-  stays_office (leftover.Files it) spared whole = λ clean image may. subst (λ (i : Image). HoldsWholeOffice i s) (sym (spared clean image may)) whole
+  stays_office : (rest : Leftover D g) → SparesTables old rest → ContainWholeOffice old s → StaysOffice s rest
+  stays_office (leftover.Files it) spared whole = λ clean image may. subst (λ (i : Image). ContainWholeOffice i s) (sym (spared clean image may)) whole
   stays_office (leftover.Unopened it) spared whole = λ clean image may.
-      record { trees = whole.trees; held = ∥∥₁_map whole.held (λ (h : HoldsTables old whole.trees). (spared clean image may).held whole.trees h); office = whole.office }
+      record { trees = whole.trees; held = ∥∥₁_map whole.held (λ (h : ContainTables old whole.trees). (spared clean image may).held whole.trees h); office = whole.office }
   stays_office (leftover.Store it) spared whole = λ clean trees may.
-      subst (λ (t : Trees). IsOfficeAt t s) (sym (∥∥₁_elim whole.held (Trees-set _ _) (λ (h : HoldsTables old whole.trees). (spared clean trees may).held whole.trees h))) whole.office
+      subst (λ (t : Trees). IsOfficeAt t s) (sym (∥∥₁_elim whole.held (Trees-set _ _) (λ (h : ContainTables old whole.trees). (spared clean trees may).held whole.trees h))) whole.office
 
-  some_stays : (rest : Option (Leftover D g)) → IfSome rest (λ it. SparesTables old it) → (HoldsWholeOffice old s → IfSome rest (λ it. StaysOffice s it))
+  some_stays : (rest : Option (Leftover D g)) → IfSome rest (λ it. SparesTables old it) → (ContainWholeOffice old s → IfSome rest (λ it. StaysOffice s it))
   some_stays None spared = λ whole. tt
   some_stays (Some rest) spared = λ whole. stays_office rest spared whole
 
@@ -75,7 +75,7 @@ module _ {D : Type 0} {g : Ghosts D} (old : Image) (s : State) (Is : State → T
         let was_clean : HasCleanDisk (file_state last) = omega (arith, doubted, clean) in
         let at = λ (db : Trees) (left : recovers store db). leaves was_clean db (closed.quiet.outcomes db left) in
         let sound : AreDatabases (recovers store) = λ db left. let is = (at db left).2.office in (is.0, is.1.has.database) in
-        ∥∥₁_map (leaves_tables store numbered sound image may) (λ (db : (x : Trees) × recovers store x × HoldsTables image x).
+        ∥∥₁_map (leaves_tables store numbered sound image may) (λ (db : (x : Trees) × recovers store x × ContainTables image x).
         let is = at db.0 db.1 in
         (is.0, is.1, record { trees = db.0; held = ∣ db.2 ∣₁; office = is.2 }))
 
@@ -86,7 +86,7 @@ module _ {D : Type 0} {g : Ghosts D} (old : Image) (s : State) (Is : State → T
 
 -- each command leaves its files so
 pub command_leaves : IsOneDatabase → StaySound → IsEnded → {D : Type 0} {g : Ghosts D} (image : Image) (s : State) (order : Command) (text : List ℕ) (written after : Option (List ℕ)) (exit : Exit) (left : FilesLeft D g)
-    → HoldsOfficeAt image s → RunsInFiles left image order (Some text) written after exit → LeavesFilesAt image s (IsLeftBy order text written after exit s) left
+    → ContainOffice image s → RunsInFiles left image order (Some text) written after exit → LeavesFilesAt image s (IsLeftBy order text written after exit s) left
 command_leaves one stay ends image s order text written after exit left holds (inl none) = unopened_at image s (IsLeftBy order text written after exit s) left none.1
 command_leaves one stay ends image s order text written after exit left holds (inr (last, over, is_left)) =
     let ed = holds.office.schema_version in
@@ -99,7 +99,7 @@ command_leaves one stay ends image s order text written after exit left holds (i
 
 -- and so does a service
 pub service_leaves : IsOneDatabase → StaySound → IsEnded → {D : Type 0} {g : Ghosts D} (image : Image) (s : State) (port count : ℕ) (written after : Option (List ℕ)) (exit : Exit) (left : FilesLeft D g)
-    → HoldsOfficeAt image s → ServesInFiles left image port count written after exit → LeavesFilesAt image s (IsServedTo s) left
+    → ContainOffice image s → ServesInFiles left image port count written after exit → LeavesFilesAt image s (IsServedTo s) left
 service_leaves one stay ends image s port count written after exit left holds (inl none) = unopened_at image s (IsServedTo s) left none.1
 service_leaves one stay ends image s port count written after exit left holds (inr (last, over, is_left)) =
     let ed = holds.office.schema_version in

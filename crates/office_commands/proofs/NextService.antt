@@ -14,7 +14,7 @@ use Rattle.office_rules.specs.declared.act.Act.{Act}
 use Rattle.office_sql.specs.declared.schema_versions.SchemaVersion.{SchemaVersion}
 use Rattle.office_sql.specs.declared.schema_versions.SchemaVersion.TheVariants as schema_version
 use Rattle.office_sql.specs.Office.{IsAtRestOver}
-use Rattle.office_store.specs.RepresentsRows.{HoldsRows, RepresentsRowsIn}
+use Rattle.office_store.specs.RepresentsRows.{ContainsRows, RepresentsRowsIn}
 use Rattle.office_store.specs.declared.fault.Fault.{Fault}
 use Rattle.office_store.specs.declared.fault.Fault.TheVariants as fault
 use Rattle.office_desk.specs.Contents.{IsContentRead}
@@ -39,11 +39,11 @@ use Rattle.office_commands.specs.declared.exit.Exit.{Exit}
 use Rattle.office_commands.proofs.NextStates.{IsEnded, IsOneDatabase, StaySound, at_rows, at_stop, at_unopened, well_formed_prefix, found_same, sound_acts, sound_steps}
 use Rattle.office_commands.proofs.Services.{clean_turn, clean_turns}
 
-well_formed_steps : (n : ℕ) → AreWellFormed (run_steps n)
+pub well_formed_steps : (n : ℕ) → AreWellFormed (run_steps n)
 well_formed_steps zero = tt
 well_formed_steps (suc n) = (tt, well_formed_steps n)
 
-formed-append : (xs ys : List Act) → AreWellFormed xs → AreWellFormed ys → AreWellFormed (xs ++ ys)
+pub formed-append : (xs ys : List Act) → AreWellFormed xs → AreWellFormed ys → AreWellFormed (xs ++ ys)
 formed-append [] ys all more = more
 formed-append (x ∷ xs) ys (is, all) more = (is, formed-append xs ys all more)
 
@@ -68,7 +68,7 @@ module _ (stay : StaySound) (ends : IsEnded) (At : Trees → State → Type 0) (
   abbrev ServedAt : State → DeskState S → Type 0
   ServedAt s d = ((u : State) × IsServedTo s u × IsAt g u d) ⊎ (IsTrue d.is_poisoned × LeftServed s d.held)
 
-  has_rows : (d : DeskState S) (u : State) → IsSound u → HoldsRows (rows_of u) (state g d.held) → (db : Trees) → (state g d.held).may_leave db → At db u
+  has_rows : (d : DeskState S) (u : State) → IsSound u → ContainsRows (rows_of u) (state g d.held) → (db : Trees) → (state g d.held).may_leave db → At db u
   has_rows d u sound holds db may = office db u (at_rows (state g d.held) u sound holds db may)
 
   as_it_was : (s : State) (d : DeskState S) → IsAt g s d → ServedAt s d

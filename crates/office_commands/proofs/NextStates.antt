@@ -23,31 +23,34 @@ use Rattle.office_rules.specs.declared.answer.Answer.{Answer}
 use Rattle.office_sql.specs.declared.schema_versions.SchemaVersion.{SchemaVersion}
 use Rattle.office_sql.specs.declared.schema_versions.SchemaVersion.TheVariants as schema_version
 use Rattle.office_sql.specs.Office.{IsAtRestOver, IsOfficeIn}
-use Rattle.office_store.specs.RepresentsRows.{HoldsRows, RepresentsRows, RepresentsRowsIn}
+use Rattle.office_store.specs.RepresentsRows.{ContainsRows, RepresentsRows, RepresentsRowsIn}
 use Rattle.office_store.specs.declared.fault.Fault.{Fault}
 use Rattle.office_store.specs.declared.fault.Fault.TheVariants as fault
 use Rattle.office_desk.specs.Headline.{AreWellFormed}
 use Rattle.office_desk.specs.Leaving.{StopsLeaving}
 use Rattle.office_desk.specs.Opening.{RepresentIn}
-use Rattle.office_desk.specs.Outcomes.{ActsCameTo, ActsOutcome, all_done, stopped, answered_acts}
+use Rattle.office_desk.specs.Outcomes.{ActsCameTo, ActsOutcome, all_done, answers_of, stopped, answered_acts}
 use Rattle.office_desk.specs.Resumptions.{RunLeft, none_open, run_closed, run_stopped}
 use Rattle.office_desk.proofs.RunSteps.{step_run}
 use Rattle.office_json.specs.Answers.{answer_lines}
 use Rattle.office_json.specs.Lists.{acts_in}
 use Rattle.office_csv.specs.ImportRows.{Fields, parsed_row}
-use Rattle.office_wire.specs.Importing.{AreLinesOut, ArePrefixRows, AreRowsDone, AreSomeRows, IsAnsweredBy, lines_from}
+use Rattle.office_wire.specs.Importing.{AreAllRows, AreLinesOut, ArePrefixRows, AreRowsDone, AreSomeRows, IsAnsweredBy, lines_from}
 use Rattle.office_command_line.specs.Orders as command
 use Rattle.office_command_line.specs.Orders.{Command}
 use Rattle.office_command_line.specs.declared.register.Register.{Register}
 use Rattle.office_command_line.specs.declared.register.Register.TheVariants as register
-use Rattle.office_commands.specs.Applying.{Applies, Performs}
+use Rattle.office_commands.specs.Applying.{Applies, IsUnread, Performs, exit_of_none}
+use Rattle.office_json.specs.Lists.{NoActs, bad_act, not_json}
 use Rattle.office_commands.specs.Certifying.{CertificateEnds}
 use Rattle.office_commands.specs.Exporting.{ExportEnds}
 use Rattle.office_wire.specs.declared.record_import.ImportStop.{ImportStop}
 use Rattle.office_wire.specs.declared.record_import.ImportStop.TheVariants as import
 use Rattle.office_commands.specs.Importing.{AreImported, ImportsAt, IsRowCut, exit_of_import}
 use Rattle.office_life.specs.Tables.{IsOfficeAt}
-use Rattle.office_commands.specs.NextCommand.{AreActsDone, AreRowsAdded, AreStepsTaken, AreWritten, IsLeftBy, IsUntouched, LeavesAt}
+use Rattle.office_commands.specs.NextCommand.{AreActsDone, AreRowsAdded, AreStepsTaken, AreWritten, IsLeftBy, IsUntouched, LeavesAt, SaysAll}
+use Rattle.office_commands.specs.Calling.{Reports}
+use Rattle.office_commands.specs.ExitStatuses.{exit_of_acts}
 use Rattle.office_commands.specs.Opening.{EndsOpenFailed, FromOpened, IsOpened, IsRestKept, OfficeOpenFailed}
 use Rattle.office_commands.specs.Resuming.{ResumeEnds, Resumes}
 use Rattle.office_commands.specs.Making.{InitEnds}
@@ -65,6 +68,43 @@ StaySound = (s : State) (a : Act) → IsSound s → IsWellFormedAct a → IsSoun
 
 abbrev pub IsEnded : Type 0
 IsEnded = (s : State) (run : ℕ) → open_run s.office ≡ Some run → after_steps s (suc (length (candidates s.office run))) ≡ whole s run
+
+-- ---- exits that do not say that all was answered
+
+fault_not_all : (f : Fault) (exit : Exit) → exit ≡ how.Fault f → SaysAll exit → ⊥
+fault_not_all f exit is (inl done) = let other : how.Fault f ≡ how.Done = sym is ∙ done in cc
+fault_not_all f exit is (inr some) = let other : how.Fault f ≡ how.SomeRefused = sym is ∙ some in cc
+
+file_not_all : (exit : Exit) → exit ≡ how.File → SaysAll exit → ⊥
+file_not_all exit is (inl done) = let other : how.File ≡ how.Done = sym is ∙ done in cc
+file_not_all exit is (inr some) = let other : how.File ≡ how.SomeRefused = sym is ∙ some in cc
+
+none_not_all : (why : NoActs) (exit : Exit) → exit ≡ exit_of_none why → SaysAll exit → ⊥
+none_not_all not_json exit is (inl done) = let other : how.NotJson ≡ how.Done = sym is ∙ done in cc
+none_not_all not_json exit is (inr some) = let other : how.NotJson ≡ how.SomeRefused = sym is ∙ some in cc
+none_not_all (bad_act place why) exit is (inl done) = let other : how.ActRefused place why ≡ how.Done = sym is ∙ done in cc
+none_not_all (bad_act place why) exit is (inr some) = let other : how.ActRefused place why ≡ how.SomeRefused = sym is ∙ some in cc
+
+unread_not_all : (text : List ℕ) (exit : Exit) → IsUnread text exit → SaysAll exit → ⊥
+unread_not_all text exit (inl (why, none, is)) = none_not_all why exit is
+unread_not_all text exit (inr is) = fault_not_all fault.Memory exit is
+
+text_not_all : (exit : Exit) → (exit ≡ how.File) ⊎ (exit ≡ how.Fault fault.Memory) → SaysAll exit → ⊥
+text_not_all exit (inl is) = file_not_all exit is
+text_not_all exit (inr is) = fault_not_all fault.Memory exit is
+
+header_not_all : (exit : Exit) → exit ≡ how.CsvHeader → SaysAll exit → ⊥
+header_not_all exit is (inl done) = let other : how.CsvHeader ≡ how.Done = sym is ∙ done in cc
+header_not_all exit is (inr some) = let other : how.CsvHeader ≡ how.SomeRefused = sym is ∙ some in cc
+
+row_not_all : (number : ℕ) (exit : Exit) → exit ≡ how.CsvRow number → SaysAll exit → ⊥
+row_not_all number exit is (inl done) = let other : how.CsvRow number ≡ how.Done = sym is ∙ done in cc
+row_not_all number exit is (inr some) = let other : how.CsvRow number ≡ how.SomeRefused = sym is ∙ some in cc
+
+-- acts that a fault stopped
+stopped_not_all : (replies : List Answer) (f : Fault) (lines : List ℕ) (written after : Option (List ℕ)) (exit : Exit) → Reports lines (exit_of_acts (stopped replies f)) written after exit → SaysAll exit → ⊥
+stopped_not_all replies f lines written after exit (inl all) = fault_not_all f exit all.1
+stopped_not_all replies f lines written after exit (inr some) = file_not_all exit some.1
 
 -- ---- states stay sound
 
@@ -93,7 +133,7 @@ module _ (stay : StaySound) where
 -- ---- what a crash leaves
 
 -- tables that are those of a state alone
-pub at_rows : (new : FileState) (u : State) → IsSound u → HoldsRows (rows_of u) new → (db : Trees) → new.may_leave db → IsOfficeAt db u
+pub at_rows : (new : FileState) (u : State) → IsSound u → ContainsRows (rows_of u) new → (db : Trees) → new.may_leave db → IsOfficeAt db u
 at_rows new u sound holds db may =
     let is = sym (holds.rest.only db may) in
     record {
@@ -146,7 +186,7 @@ module _ (stay : StaySound) (ends : IsEnded) (At : Trees → State → Type 0) (
   abbrev LeavesSo : (State → Type 0) → Type 0
   LeavesSo Is = (db : Trees) → new.may_leave db → (u : State) × Is u × At db u
 
-  has_rows : (u : State) → IsSound u → HoldsRows (rows_of u) new → (db : Trees) → new.may_leave db → At db u
+  has_rows : (u : State) → IsSound u → ContainsRows (rows_of u) new → (db : Trees) → new.may_leave db → At db u
   has_rows u sound_u holds db may = office db u (at_rows new u sound_u holds db may)
 
   has_stopped : (v w : State) (f : Fault) → IsSound v → IsSound w → StopsLeaving v w f new → (db : Trees) → new.may_leave db → At db v ⊎ At db w
@@ -163,7 +203,7 @@ module _ (stay : StaySound) (ends : IsEnded) (At : Trees → State → Type 0) (
   not_opened written after exit it = (at_unopened it.0 it.2, it.3)
 
   opened_left : IsOpened old new → LeavesSo (λ u. u ≡ s)
-  opened_left it = same_left (has_rows s sound (of_opened (λ t. HoldsRows (rows_of t) new) it.opened))
+  opened_left it = same_left (has_rows s sound (of_opened (λ t. ContainsRows (rows_of t) new) it.opened))
 
   -- ---- init
 
@@ -185,11 +225,11 @@ module _ (stay : StaySound) (ends : IsEnded) (At : Trees → State → Type 0) (
 
   module _ (text : List ℕ) (written after : Option (List ℕ)) where
     abbrev ActsLeft : Exit → State → Type 0
-    ActsLeft exit u = IsUntouched written after s u ⊎ AreActsDone text written after exit s u
+    ActsLeft exit u = IsUntouched written after s u × (SaysAll exit → ⊥) ⊎ AreActsDone text written after exit s u
 
     module _ (acts : List Act) (read : acts_in text ≡ Ok acts) where
-      came_left : (exit : Exit) (o : ActsOutcome) → ActsCameTo s acts o new → AreWritten (answer_lines (answers s (answered_acts acts o))) written after exit → LeavesSo (ActsLeft exit)
-      came_left exit (all_done replies) it reported db may =
+      came_left : (exit : Exit) (o : ActsOutcome) → ActsCameTo s acts o new → AreWritten (answer_lines (answers s (answered_acts acts o))) written after exit → Reports (answer_lines (answers_of o)) (exit_of_acts o) written after exit → LeavesSo (ActsLeft exit)
+      came_left exit (all_done replies) it reported so db may =
           let all : acts ≡ take (length acts) acts = sym (take-length acts) in (
             after_acts s acts,
             inr (record {
@@ -199,17 +239,20 @@ module _ (stay : StaySound) (ends : IsEnded) (At : Trees → State → Type 0) (
               within = omega arith;
               answered = subst (λ (xs : List Act). AreWritten (answer_lines (answers s xs)) written after exit) all reported;
               state = inl (ap (after_acts s) all);
+              formed = it.formed;
+              all = λ says. refl;
             }),
             has_rows (after_acts s acts) it.leaves.sound it.leaves.rows db may,
           )
-      came_left exit (stopped replies f) it reported db may =
+      came_left exit (stopped replies f) it reported so db may =
+          let not_all = stopped_not_all replies f (answer_lines replies) written after exit so in
           let n = length replies in
           let v = after_acts s (take n acts) in
           let w = after_acts s (take (n + 1) acts) in
           let sound_at = λ (k : ℕ). sound_acts stay (take k acts) s sound (well_formed_prefix k acts it.formed) in
           elim (has_stopped v w f (sound_at n) (sound_at (n + 1)) it.leaves db may) [
-            | inl here ↦ (v, inr (record { acts = acts; read = read; count = n; within = it.fits.0; answered = reported; state = inl refl }), here)
-            | inr next ↦ (w, inr (record { acts = acts; read = read; count = n; within = it.fits.0; answered = reported; state = inr refl }), next)
+            | inl here ↦ (v, inr (record { acts = acts; read = read; count = n; within = it.fits.0; answered = reported; state = inl refl; formed = it.formed; all = λ says. absurd (not_all says) }), here)
+            | inr next ↦ (w, inr (record { acts = acts; read = read; count = n; within = it.fits.0; answered = reported; state = inr refl; formed = it.formed; all = λ says. absurd (not_all says) }), next)
           ]
 
       performs_left : (exit : Exit) → Performs (FromOpened old new) acts new written after exit → LeavesSo (ActsLeft exit)
@@ -218,22 +261,22 @@ module _ (stay : StaySound) (ends : IsEnded) (At : Trees → State → Type 0) (
           came_left exit it.outcome came (elim it.reported [
             | inl all ↦ inl (subst (λ (xs : List Answer). Appends written after (answer_lines xs)) came.answered all.0)
             | inr some ↦ inr (some.1, subst (λ (xs : List Answer). AppendsSome written after (answer_lines xs)) came.answered some.0)
-          ])
+          ]) it.reported
 
     applies_left : (exit : Exit) → EndsOpenFailed old new written after exit ⊎ IsRestKept old new × Applies (FromOpened old new) text new written after exit → LeavesSo (ActsLeft exit)
-    applies_left exit (inl none) = let it = not_opened written after exit none in untouched (ActsLeft exit) written after inl it.1 it.0
-    applies_left exit (inr (kept, inl unread)) = untouched (ActsLeft exit) written after inl unread.2 (has_rows s sound (of_opened (λ t. HoldsRows (rows_of t) new) unread.1))
+    applies_left exit (inl none) = let it = not_opened written after exit none in untouched (ActsLeft exit) written after (λ same. inl (same, fault_not_all none.0 exit none.1)) it.1 it.0
+    applies_left exit (inr (kept, inl unread)) = untouched (ActsLeft exit) written after (λ same. inl (same, unread_not_all text exit unread.0)) unread.2 (has_rows s sound (of_opened (λ t. ContainsRows (rows_of t) new) unread.1))
     applies_left exit (inr (kept, inr it)) = performs_left it.0 it.1 exit it.2
 
   -- ---- import
 
   module _ (day : ℤ) (text written after : Option (List ℕ)) where
     abbrev RowsLeft : Exit → State → Type 0
-    RowsLeft exit u = IsUntouched written after s u ⊎ AreRowsAdded day text written after exit s u
+    RowsLeft exit u = IsUntouched written after s u × (SaysAll exit → ⊥) ⊎ AreRowsAdded day text written after exit s u
 
     -- rows were added, and no more
-    added : (exit : Exit) (fs : List Fields) (reported : List Answer) (u : State) → ArePrefixRows text fs → AreRowsDone day s fs reported u → Appends written after (lines_from 0 reported) ⊎ (exit ≡ how.File) × AreLinesOut reported written after → HoldsRows (rows_of u) new → LeavesSo (RowsLeft exit)
-    added exit fs reported u prefix done lines holds db may = (
+    added : (exit : Exit) (fs : List Fields) (reported : List Answer) (u : State) → (SaysAll exit → AreAllRows text fs) → ArePrefixRows text fs → AreRowsDone day s fs reported u → Appends written after (lines_from 0 reported) ⊎ (exit ≡ how.File) × AreLinesOut reported written after → ContainsRows (rows_of u) new → LeavesSo (RowsLeft exit)
+    added exit fs reported u whole prefix done lines holds db may = (
       u,
       inr (record {
         rows = fs;
@@ -243,12 +286,13 @@ module _ (stay : StaySound) (ends : IsEnded) (At : Trees → State → Type 0) (
         done = done;
         answered = lines;
         state = inl refl;
+        all = λ says. (whole says, refl);
       }),
       has_rows u (sound_rows stay day s u fs reported done sound) holds db may,
     )
 
-    cut_row : (exit : Exit) (fs : List Fields) (reported : List Answer) (u : State) (row : Fields) (f : Fault) → AreSomeRows text (fs ++ row ∷ []) → AreRowsDone day s fs reported u → Appends written after (lines_from 0 reported) → IsRowCut day u row f new → LeavesSo (RowsLeft exit)
-    cut_row exit fs reported u row f some done lines (inl it) db may = (
+    cut_row : (exit : Exit) (fs : List Fields) (reported : List Answer) (u : State) (row : Fields) (f : Fault) → (SaysAll exit → ⊥) → AreSomeRows text (fs ++ row ∷ []) → AreRowsDone day s fs reported u → Appends written after (lines_from 0 reported) → IsRowCut day u row f new → LeavesSo (RowsLeft exit)
+    cut_row exit fs reported u row f not_all some done lines (inl it) db may = (
       u,
       inr (record {
         rows = fs;
@@ -258,10 +302,11 @@ module _ (stay : StaySound) (ends : IsEnded) (At : Trees → State → Type 0) (
         done = done;
         answered = inl lines;
         state = inl refl;
+        all = λ says. absurd (not_all says);
       }),
       has_rows u (sound_rows stay day s u fs reported done sound) it.1 db may,
     )
-    cut_row exit fs reported u row f some done lines (inr (a, is, formed, left)) db may =
+    cut_row exit fs reported u row f not_all some done lines (inr (a, is, formed, left)) db may =
         let sound_u = sound_rows stay day s u fs reported done sound in
         elim (has_stopped u (step u a).1 f sound_u (stay u a sound_u formed) left db may) [
           | inl here ↦ (
@@ -274,6 +319,7 @@ module _ (stay : StaySound) (ends : IsEnded) (At : Trees → State → Type 0) (
               done = done;
               answered = inl lines;
               state = inl refl;
+              all = λ says. absurd (not_all says);
             }),
             here,
           )
@@ -286,27 +332,28 @@ module _ (stay : StaySound) (ends : IsEnded) (At : Trees → State → Type 0) (
               begins = (row ∷ [], inr some);
               done = done;
               answered = inl lines;
-              state = inr (row, (step u a).0, (rw is (formed, refl, refl)));
+              state = inr (row, (step u a).0, some, (rw is (formed, refl, refl)));
+              all = λ says. absurd (not_all says);
             }),
             next,
           )
         ]
 
     imports_left : (exit : Exit) (done : Result ℕ ImportStop) → exit ≡ exit_of_import done → AreImported day text done new written after s → LeavesSo (RowsLeft exit)
-    imports_left exit (Ok refused) is (fs, reported, u, (r, left, first, ended), it, none) = added exit fs reported u (inr (r, left, first)) it.done (inl it.reported) it.saved
-    imports_left exit (Err import.Header) is it = untouched (RowsLeft exit) written after inl it.2 (has_rows s sound it.1)
-    imports_left exit (Err (import.Row number)) is (fs, reported, u, (r, left, first, bad), it, at) = added exit fs reported u (inr (r, left, first)) it.done (inl it.reported) it.saved
-    imports_left exit (Err (import.Fault f)) is (fs, reported, u, done, lines, inl it) = added exit fs reported u it.1 done (inl lines) it.2
-    imports_left exit (Err (import.Fault f)) is (fs, reported, u, done, lines, inr it) = cut_row exit fs reported u it.0 f it.1 done lines it.2
-    imports_left exit (Err import.Io) is (fs, reported, u, prefix, done, holds, out) = added exit fs reported u prefix done (inr (is, out)) holds
+    imports_left exit (Ok refused) is (fs, reported, u, (r, left, first, ended), it, none) = added exit fs reported u (λ says. (r, left, first, ended)) (inr (r, left, first)) it.done (inl it.reported) it.saved
+    imports_left exit (Err import.Header) is it = untouched (RowsLeft exit) written after (λ same. inl (same, header_not_all exit is)) it.2 (has_rows s sound it.1)
+    imports_left exit (Err (import.Row number)) is (fs, reported, u, (r, left, first, bad), it, at) = added exit fs reported u (λ says. absurd (row_not_all number exit is says)) (inr (r, left, first)) it.done (inl it.reported) it.saved
+    imports_left exit (Err (import.Fault f)) is (fs, reported, u, done, lines, inl it) = added exit fs reported u (λ says. absurd (fault_not_all f exit is says)) it.1 done (inl lines) it.2
+    imports_left exit (Err (import.Fault f)) is (fs, reported, u, done, lines, inr it) = cut_row exit fs reported u it.0 f (fault_not_all f exit is) it.1 done lines it.2
+    imports_left exit (Err import.Io) is (fs, reported, u, prefix, done, holds, out) = added exit fs reported u (λ says. absurd (file_not_all exit is says)) prefix done (inr (is, out)) holds
 
     import_left : (exit : Exit) → EndsOpenFailed old new written after exit ⊎ ImportsAt (FromOpened old new) day text new written after exit → LeavesSo (RowsLeft exit)
-    import_left exit (inl none) = let it = not_opened written after exit none in untouched (RowsLeft exit) written after inl it.1 it.0
+    import_left exit (inl none) = let it = not_opened written after exit none in untouched (RowsLeft exit) written after (λ same. inl (same, fault_not_all none.0 exit none.1)) it.1 it.0
     import_left exit (inr (done, is, it)) = imports_left exit done is (of_opened (AreImported day text done new written after) it)
 
   -- ---- resume
 
-  whole_left : (exit : Exit) (run : ℕ) → open_run s.office ≡ Some run → HoldsRows (rows_of (whole s run)) new → LeavesSo (AreStepsTaken exit s)
+  whole_left : (exit : Exit) (run : ℕ) → open_run s.office ≡ Some run → ContainsRows (rows_of (whole s run)) new → LeavesSo (AreStepsTaken exit s)
   whole_left exit run is_open holds db may =
       let n = suc (length (candidates s.office run)) in
       let is : whole s run ≡ after_steps s n = sym (ends s run is_open) in (
@@ -354,7 +401,7 @@ module _ (stay : StaySound) (ends : IsEnded) (At : Trees → State → Type 0) (
   command_so (command.plan file) text written after exit it = same_held (λ u. u ≡ s) refl it.1
   command_so (command.serve file port count) text written after exit it = same_held (λ u. u ≡ s) refl it.1
   command_so (command.init file) text written after exit it = init_left stay ends At office (state g old) (state g new) s sound of_opened at_unopened written after exit it
-  command_so (command.apply file acts) text written after exit (inl none) = same_held (IsLeftBy (command.apply file acts) text written after exit s) (inl (refl, none.2)) none.1
+  command_so (command.apply file acts) text written after exit (inl none) = same_held (IsLeftBy (command.apply file acts) text written after exit s) (inl ((refl, none.2), text_not_all exit none.0)) none.1
   command_so (command.apply file acts) text written after exit (inr it) = applies_left stay ends At office (state g old) (state g new) s sound of_opened at_unopened text written after exit it
   command_so (command.import file day csv) text written after exit it = import_left stay ends At office (state g old) (state g new) s sound of_opened at_unopened day (option_map strip_bom (Some text)) written after exit it
   command_so (command.overdue file day n) text written after exit it = export_left stay ends At office (state g old) (state g new) s sound of_opened at_unopened (register.Overdue day n) written after exit it

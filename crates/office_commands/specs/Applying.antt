@@ -6,7 +6,7 @@ use Rattle.sqlite_trees.specs.declared.store.Store.{Ghosts}
 use Rattle.office_rules.specs.Rows.{rows_of}
 use Rattle.office_rules.specs.State.{State}
 use Rattle.office_rules.specs.declared.act.Act.{Act}
-use Rattle.office_store.specs.RepresentsRows.{HoldsRows}
+use Rattle.office_store.specs.RepresentsRows.{ContainsRows}
 use Rattle.office_store.specs.declared.fault.Fault.TheVariants as fault
 use Rattle.office_desk.specs.Outcomes.{ActsCameTo, ActsOutcome, answers_of}
 use Rattle.office_json.specs.Answers.{answer_lines}
@@ -38,7 +38,7 @@ IsUnread text exit =
 abbrev pub Applies : ((State → Type 0) → Type 0) → List ℕ → FileState → Option (List ℕ) → Option (List ℕ) → Exit
     → Type 0
 Applies AtState text new written after exit =
-    IsUnread text exit × AtState (λ t. HoldsRows (rows_of t) new) × (after ≡ written)
+    IsUnread text exit × AtState (λ t. ContainsRows (rows_of t) new) × (after ≡ written)
     ⊎ ((acts : List Act) × (acts_in text ≡ Ok acts) × Performs AtState acts new written after exit)
 
 -- `apply FILE ACTS` where the text of acts was read, by the exit; what else the file has is kept

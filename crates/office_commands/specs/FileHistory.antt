@@ -19,6 +19,7 @@ use Rattle.office_rules.specs.Sound.{IsSound}
 use Rattle.office_rules.specs.State.{State}
 use Rattle.office_rules.specs.declared.act.Act.{Act}
 use Rattle.office_desk.specs.Fates.{AreContentsAfter}
+use Rattle.office_desk.specs.Headline.{AreWellFormed}
 use Rattle.office_life.specs.Standing.{IsKnownAt, Stage, StandsAt, remains_of, stage_after, stored}
 use Rattle.office_life.specs.declared.reports.Remains.{Remains}
 use Rattle.office_life.specs.declared.reports.Remains.TheVariants as remains
@@ -27,7 +28,9 @@ use Rattle.office_commands.specs.Files.{EndsOver, RunsInFiles, ServesInFiles}
 use Rattle.office_commands.specs.NextCommand.{IsLeftBy, IsServedTo}
 use Rattle.office_commands.specs.Running.{RunEnds}
 use Rattle.office_commands.specs.Serving.{ServiceEnds}
+use Rattle.office_store.specs.declared.fault.Fault.TheVariants as fault
 use Rattle.office_commands.specs.declared.exit.Exit.{Exit}
+use Rattle.office_commands.specs.declared.exit.Exit.TheVariants as how
 use Rattle.office_commands.specs.declared.office_files.FilesLeft.{FilesLeft}
 use Rattle.office_commands.specs.declared.office_files.FilesLeft.TheVariants as files
 
@@ -51,10 +54,18 @@ WasKilled (ran_command order text written after exit) image last =
 WasKilled (ran_service port count written after exit) image last =
     EndsOver (files.Unopened None) image (λ was last. ServiceEnds over_files port count was last written after exit) last
 
--- the state at which it leaves an office that was at one: what its command says, or the same, as where it was not opened
+-- the run says that it opened nothing: fault 31, with nothing written
+abbrev pub SaysUnopened : ProgramRun → Type 0
+SaysUnopened (ran_command order text written after exit) = (exit ≡ how.Fault fault.Store) × (after ≡ written)
+SaysUnopened (ran_service port count written after exit) = (exit ≡ how.Fault fault.Store) × (after ≡ written)
+
+-- the state at which it leaves an office that was at one: what its command says; or the same, if it says that it opened
+-- nothing
 abbrev pub IsLeftAt : ProgramRun → State → State → Type 0
-IsLeftAt (ran_command order text written after exit) s u = (u ≡ s) ⊎ IsLeftBy order text written after exit s u
-IsLeftAt (ran_service port count written after exit) s u = (u ≡ s) ⊎ IsServedTo s u
+IsLeftAt (ran_command order text written after exit) s u =
+    SaysUnopened (ran_command order text written after exit) × (u ≡ s) ⊎ IsLeftBy order text written after exit s u
+IsLeftAt (ran_service port count written after exit) s u =
+    SaysUnopened (ran_service port count written after exit) × (u ≡ s) ⊎ IsServedTo s u
 
 -- ---- what the next run finds
 
@@ -121,11 +132,17 @@ pub data StateHistory (s : State) : List ProgramRun → State → Type 0 where
   led : (runs : List ProgramRun) (run : ProgramRun) (t u : State) → StateHistory s runs t → IsLeftAt run t u
       → StateHistory s (runs ++ run ∷ []) u
 
+-- the runs did these acts in all, in their order: each left the office after those that it did
+pub data ActsOfRuns (s : State) : List ProgramRun → List Act → Type 0 where
+  no_run : ActsOfRuns s [] []
+  one_run : (runs : List ProgramRun) (run : ProgramRun) (done more : List Act) → ActsOfRuns s runs done
+      → IsLeftAt run (after s done) (after s (done ++ more)) → ActsOfRuns s (runs ++ run ∷ []) (done ++ more)
+
 -- such runs did acts, and these report the contents of the office
 abbrev pub ReportsContents : Type 0
 ReportsContents =
     (s u : State) (runs : List ProgramRun) → IsSound s → StateHistory s runs u
-    → (done : List Act) × (u ≡ after s done) × AreContentsAfter s done u
+    → (done : List Act) × ActsOfRuns s runs done × AreWellFormed done × (u ≡ after s done) × AreContentsAfter s done u
 
 -- after any number of runs the files stand for the state to which they led
 abbrev pub FilesFollow : Type 0

@@ -10,13 +10,13 @@ use Rattle.sqlite_wal.specs.Files.{outcomes}
 use Rattle.sqlite_wal.specs.Reads.{AreClean}
 use Rattle.sqlite_wal.specs.Recovery.{Image}
 use Rattle.sqlite.specs.Closing.{IsCopied}
-use Rattle.sqlite.specs.Files.{AreFoundIn, HoldsDatabase, IsClosed, IsEmpty, file_state, image_of, over_files}
+use Rattle.sqlite.specs.Files.{AreFoundIn, ContainDatabase, IsClosed, IsEmpty, file_state, image_of, over_files}
 use Rattle.sqlite.specs.Held.{Held, state}
 use Rattle.sqlite.specs.State.{State as FileState, HasCleanDisk}
 use Rattle.office_sql.specs.declared.schema_versions.SchemaVersion.{SchemaVersion}
 use Rattle.office_sql.specs.Office.{IsAtRestOver, IsBlank, IsOfficeIn}
 use Rattle.office_store.specs.declared.fault.Fault.TheVariants as fault
-use Rattle.office_life.specs.Tables.{HoldsTables}
+use Rattle.office_life.specs.Tables.{ContainTables}
 use Rattle.office_command_line.specs.Orders.{Command}
 use Rattle.office_commands.specs.Applying.{TextEnds}
 use Rattle.office_commands.specs.Running.{RunEnds}
@@ -29,7 +29,7 @@ use Rattle.office_commands.specs.declared.office_files.FilesLeft.TheVariants as 
 
 -- the two files held this database, which has the office's tables of that version, beside whatever else
 pub record HeldOffice (ed : SchemaVersion) (image : Image) (trees : Trees) : Type 0 where
-  pub held : ∥ HoldsDatabase image trees ∥₁
+  pub held : ∥ ContainDatabase image trees ∥₁
   pub office : IsOfficeIn ed trees
 
 -- whatever tables a crash leaves, they are an office's, of one version or the other
@@ -40,7 +40,7 @@ LeavesAnOffice s = (db : Trees) → s.may_leave db → (ed : SchemaVersion) × I
 -- that they held, or has room for one where it found nothing
 pub record IsOpenedFrom {D : Type 0} {g : Ghosts D} (image : Image) (was last : Held (FileStore D g)) : Type 0 where
   pub found : HasCleanDisk (file_state last) → AreFoundIn image (file_state was).now.trees
-  pub holds : HasCleanDisk (file_state last) → (trees : Trees) → HoldsDatabase image trees
+  pub holds : HasCleanDisk (file_state last) → (trees : Trees) → ContainDatabase image trees
       → (file_state was).now.trees ≡ trees
   pub rest : HasCleanDisk (file_state last) → (ed : SchemaVersion) (trees : Trees) → HeldOffice ed image trees
       → IsAtRestOver ed (file_state was) × ((file_state was).now.trees ≡ trees)
@@ -69,8 +69,8 @@ pub record EndsOver {D : Type 0} {g : Ghosts D} (left : FilesLeft D g) (image : 
 -- after any crash
 pub record IsClosedCopy {D : Type 0} {g : Ghosts D} (last : Held (FileStore D g)) (it : Files D) : Type 0 where
   pub copied : IsCopied last it
-  pub now : ∥ HoldsTables (image_of g it) (file_state last).committed.trees ∥₁
-  pub left : (image : Image) → outcomes g it.log it.db image → ∥ HoldsTables image (file_state last).committed.trees ∥₁
+  pub now : ∥ ContainTables (image_of g it) (file_state last).committed.trees ∥₁
+  pub left : (image : Image) → outcomes g it.log it.db image → ∥ ContainTables image (file_state last).committed.trees ∥₁
 
 -- what a closing that failed leaves: no more than what a crash left before; and the store is numbered, where it is open
 pub record IsUnclosed {D : Type 0} {g : Ghosts D} (last : Held (FileStore D g)) (store : FileStore D g) : Type 0 where

@@ -10,7 +10,7 @@ use Rattle.office_rules.specs.Rows.{rows_of}
 use Rattle.office_rules.specs.State.{State}
 use Rattle.office_rules.specs.declared.act.Act.{Act}
 use Rattle.office_rules.specs.declared.answer.Answer.{Answer}
-use Rattle.office_store.specs.RepresentsRows.{HoldsRows}
+use Rattle.office_store.specs.RepresentsRows.{ContainsRows}
 use Rattle.office_store.specs.declared.fault.Fault.{Fault}
 use Rattle.office_store.specs.declared.fault.Fault.TheVariants as fault
 use Rattle.office_desk.specs.Leaving.{StopsLeaving}
@@ -35,7 +35,7 @@ exit_of_import (Err import.Io) = how.File
 pub record AreSaved (day : ℤ) (rows : List Fields) (answers : List Answer) (u : State) (new : FileState)
     (written after : Option (List ℕ)) (t : State) : Type 0 where
   pub done : AreRowsDone day t rows answers u
-  pub saved : HoldsRows (rows_of u) new
+  pub saved : ContainsRows (rows_of u) new
   pub reported : Appends written after (lines_from 0 answers)
 
 -- all rows of the text were done, and so many of them are refused
@@ -53,7 +53,7 @@ AreSavedBeforeBad day text number new written after t =
 -- a fault stopped a row: memory ran out to read it, or a crash leaves the tables before its act or after it
 abbrev pub IsRowCut : ℤ → State → Fields → Fault → FileState → Type 0
 IsRowCut day u row f new =
-    ((f ≡ fault.Memory) × HoldsRows (rows_of u) new)
+    ((f ≡ fault.Memory) × ContainsRows (rows_of u) new)
     ⊎ ((act : Act) × (parsed_row day row ≡ Ok act) × IsWellFormedAct act × StopsLeaving u (step u act).1 f new)
 
 -- a fault stopped the import after some rows: memory ran out for the next one, or that one was cut
@@ -61,18 +61,18 @@ abbrev pub AreCutShort : ℤ → Option (List ℕ) → Fault → FileState → O
 AreCutShort day text f new written after t =
     (rows : List Fields) × (answers : List Answer) × (u : State) × AreRowsDone day t rows answers u
     × Appends written after (lines_from 0 answers)
-    × ((f ≡ fault.Memory) × ArePrefixRows text rows × HoldsRows (rows_of u) new
+    × ((f ≡ fault.Memory) × ArePrefixRows text rows × ContainsRows (rows_of u) new
     ⊎ ((row : Fields) × AreSomeRows text (rows ++ row ∷ []) × IsRowCut day u row f new))
 
 -- reading or writing failed after some rows; of the line of the last one a part may be written
 abbrev pub AreUnreported : ℤ → Option (List ℕ) → FileState → Option (List ℕ) → Option (List ℕ) → State → Type 0
 AreUnreported day text new written after t =
     (rows : List Fields) × (answers : List Answer) × (u : State) × ArePrefixRows text rows
-    × AreRowsDone day t rows answers u × HoldsRows (rows_of u) new × AreLinesOut answers written after
+    × AreRowsDone day t rows answers u × ContainsRows (rows_of u) new × AreLinesOut answers written after
 
 -- nothing was done, since the first row does not name the columns
 abbrev pub IsUnheaded : Option (List ℕ) → FileState → Option (List ℕ) → Option (List ℕ) → State → Type 0
-IsUnheaded text new written after t = LacksHeader StartRecord text × HoldsRows (rows_of t) new × (after ≡ written)
+IsUnheaded text new written after t = LacksHeader StartRecord text × ContainsRows (rows_of t) new × (after ≡ written)
 
 -- what the rows of a text came to, by how many were refused, or by what stopped them
 abbrev pub AreImported : ℤ → Option (List ℕ) → Result ℕ ImportStop → FileState → Option (List ℕ) → Option (List ℕ)

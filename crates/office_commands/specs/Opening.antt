@@ -8,7 +8,7 @@ use Rattle.office_sql.specs.declared.schema_versions.SchemaVersion.{SchemaVersio
 use Rattle.office_sql.specs.Office.{IsAtRest, IsAtRestOver, IsBlank}
 use Rattle.office_store.specs.Adopted.{LeavesLess}
 use Rattle.office_store.specs.Calling.{has_office_table}
-use Rattle.office_store.specs.RepresentsRows.{HoldsRows}
+use Rattle.office_store.specs.RepresentsRows.{ContainsRows}
 use Rattle.office_store.specs.declared.fault.Fault.{Fault}
 use Rattle.office_store.specs.declared.fault.Fault.TheVariants as fault
 use Rattle.office_desk.specs.Opening.{IsOpenable, LeavesRest, OpenFailedLeaves, RepresentIn}
@@ -31,7 +31,7 @@ pub record FromOpened (old new : FileState) (P : State → Type 0) : Type 0 wher
 pub record IsOpened (old new : FileState) : Type 0 where
   -- it is made anew only where none of its names is in use
   pub clear : has_office_table old ≡ false → has_used_name old.now.schema ≡ false
-  pub opened : FromOpened old new (λ t. HoldsRows (rows_of t) new)
+  pub opened : FromOpened old new (λ t. ContainsRows (rows_of t) new)
   -- tables of version 2 are as they were; those of version 1 were made those of version 2
   pub same : HasCleanDisk new → IsAtRest old → new.now ≡ old.now
   pub rest : IsRestKept old new

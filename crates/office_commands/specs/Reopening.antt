@@ -15,7 +15,7 @@ use Rattle.office_sql.specs.Office.{IsOfficeIn}
 use Rattle.office_rules.specs.State.{State}
 use Rattle.office_command_line.specs.Orders.{Command}
 use Rattle.office_commands.specs.Files.{HeldOffice, IsLeftOf, LeavesAnOffice, RunsInFiles, ServesInFiles}
-use Rattle.office_commands.specs.NextCommand.{HoldsOfficeAt, HoldsWholeOffice, IsLeftBy, IsServedTo, LeavesFilesAt}
+use Rattle.office_commands.specs.NextCommand.{ContainOffice, ContainWholeOffice, IsLeftBy, IsServedTo, LeavesFilesAt}
 use Rattle.office_commands.specs.declared.exit.Exit.{Exit}
 use Rattle.office_commands.specs.declared.office_files.FilesLeft.{FilesLeft}
 use Rattle.office_commands.specs.declared.office_files.FilesLeft.TheVariants as files
@@ -34,8 +34,8 @@ ClosedFilesKeepOffice {D} g =
 
 -- the process ended with a connection of which a crash leaves an office, whatever it leaves: the files hold one of
 -- those offices
-abbrev pub CrashHoldsOffice : {D : Type 0} {g : Ghosts D} → Held (FileStore D g) → Type 0
-CrashHoldsOffice last =
+abbrev pub CrashContainsOffice : {D : Type 0} {g : Ghosts D} → Held (FileStore D g) → Type 0
+CrashContainsOffice last =
     LeavesAnOffice (file_state last) → (left : Image) → (store_state last.store).may_leave left
     → ∥ ((trees : Trees) × (ed : SchemaVersion) × (file_state last).may_leave trees × HeldOffice ed left trees) ∥₁
 
@@ -44,7 +44,7 @@ abbrev pub CommandLeavesOffice : {D : Type 0} → Ghosts D → Type 0
 CommandLeavesOffice {D} g =
     (image : Image) (s : State) (order : Command) (text : List ℕ) (written after : Option (List ℕ)) (exit : Exit)
     (left : FilesLeft D g)
-    → HoldsOfficeAt image s → RunsInFiles left image order (Some text) written after exit
+    → ContainOffice image s → RunsInFiles left image order (Some text) written after exit
     → LeavesFilesAt image s (IsLeftBy order text written after exit s) left
 
 -- the same of a service, which leaves the office after some acts
@@ -52,9 +52,9 @@ abbrev pub ServiceLeavesOffice : {D : Type 0} → Ghosts D → Type 0
 ServiceLeavesOffice {D} g =
     (image : Image) (s : State) (port count : ℕ) (written after : Option (List ℕ)) (exit : Exit)
     (left : FilesLeft D g)
-    → HoldsOfficeAt image s → ServesInFiles left image port count written after exit
+    → ContainOffice image s → ServesInFiles left image port count written after exit
     → LeavesFilesAt image s (IsServedTo s) left
 
 -- an office of which each page has its sum, if the file has sums, is one
 abbrev pub WholeIsOffice : Type 0
-WholeIsOffice = (image : Image) (s : State) → HoldsWholeOffice image s → HoldsOfficeAt image s
+WholeIsOffice = (image : Image) (s : State) → ContainWholeOffice image s → ContainOffice image s

@@ -8,23 +8,23 @@ use Rattle.sqlite_trees.specs.Tree.{Trees}
 use Rattle.sqlite_wal.specs.Files.{outcomes}
 use Rattle.sqlite_wal.specs.Reads.{AreClean}
 use Rattle.sqlite_wal.specs.Recovery.{Image}
-use Rattle.sqlite.specs.Files.{HoldsDatabase, IsEmpty, IsNothing}
+use Rattle.sqlite.specs.Files.{ContainDatabase, IsEmpty, IsNothing}
 use Rattle.sqlite.specs.declared.file.Leftover.{Leftover}
 use Rattle.sqlite.specs.declared.file.Leftover.TheVariants as left
-use Rattle.office_life.specs.Tables.{HoldsTables}
+use Rattle.office_life.specs.Tables.{ContainTables}
 
 -- there is no database yet, or one without a table
 abbrev pub IsNoneYet : Image → Type 0
-IsNoneYet image = IsNothing image ⊎ ∥ ((tables : Trees) × HoldsDatabase image tables × IsEmpty tables) ∥₁
+IsNoneYet image = IsNothing image ⊎ ∥ ((tables : Trees) × ContainDatabase image tables × IsEmpty tables) ∥₁
 
 -- the files hold the tables that they held; if they held no database, they hold none yet
 pub record KeepsTables (before after : Image) : Type 0 where
-  pub held : (tables : Trees) → HoldsTables before tables → HoldsTables after tables
+  pub held : (tables : Trees) → ContainTables before tables → ContainTables after tables
   pub none : IsNothing before → IsNoneYet after
 
 -- these are the tables that the files hold; if they hold no database, these are empty
 pub record AreTablesIn (image : Image) (found : Trees) : Type 0 where
-  pub held : (tables : Trees) → HoldsTables image tables → found ≡ tables
+  pub held : (tables : Trees) → ContainTables image tables → found ≡ tables
   pub none : IsNothing image → IsEmpty found
 
 -- what is left of files that held this and were not opened: whatever a crash leaves of them is what they held, or holds

@@ -1,7 +1,8 @@
 //! What one run of the program leaves of an office's files is what the next one opens.
+ghost use Rattle.std.specs.Prelude.{IsTrue};
 ghost use Rattle.sqlite_store.specs.FileStore.{view};
 ghost use Rattle.sqlite_trees.specs.View.{IsClean};
-ghost use Rattle.office_commands.specs.Reopening.{ClosedFilesKeepOffice, CrashHoldsOffice, ServiceLeavesOffice, WholeIsOffice, CommandLeavesOffice};
+ghost use Rattle.office_commands.specs.Reopening.{ClosedFilesKeepOffice, CrashContainsOffice, ServiceLeavesOffice, WholeIsOffice, CommandLeavesOffice};
 
 use office_rules::laws::resumption::law_of_resumption;
 use office_rules::laws::soundness::law_of_soundness;
@@ -21,7 +22,8 @@ pub fn law_of_the_next_command<D: Disk + Drop>()
 /// database promises that a store is numbered only of one that it gives back. A crash has what the
 /// connection left, whether it was consumed or not.
 pub fn law_of_a_killed_command<D: Disk + Drop>(conn: Connection<FileStore<D>>) -> FileStore<D>
-    ensures crashed { IsClean (view result) → CrashHoldsOffice conn }
+    ensures crashed { IsClean (view result) → CrashContainsOffice conn }
+    ensures numbered { IsClean (view result) → IsTrue (view conn.store).is_numbered }
 {
     conn.into_store()
 }

@@ -14,7 +14,7 @@ use Rattle.office_sql.specs.declared.schema_versions.SchemaVersion.TheVariants a
 use Rattle.office_sql.specs.Office.{IsAtRest, IsAtRestOver, KeepsRest, Leaves}
 use Rattle.office_store.specs.Adopted.{LeavesLess}
 use Rattle.office_store.specs.Calling.{AreNotTaken, IsNotAdopted, Migrated, has_office_table}
-use Rattle.office_store.specs.RepresentsRows.{HoldsOldRows, OldRepresentsRows, RepresentsRows}
+use Rattle.office_store.specs.RepresentsRows.{ContainsOldRows, OldRepresentsRows, RepresentsRows}
 use Rattle.office_store.specs.declared.fault.Fault.{Fault}
 use Rattle.office_store.specs.declared.fault.Fault.TheVariants as fault
 use Rattle.office_desk.specs.Desk.{DeskState}
@@ -90,7 +90,7 @@ module _ {S : Type 0} (g : Ghosts S) (conn : Held S) (there : has_office_table (
 
   module _ (store : Held S) (machine : Office) (taken : IsLoaded g conn store machine) where
     -- what was loaded is at the store
-    holds_old : (s : State) → RepresentIn schema_version.One (state g conn).now.trees s → IsAtRestOver schema_version.One (state g store) → (state g store).now ≡ (state g conn).now → HoldsOldRows (rows_of s) (state g store)
+    holds_old : (s : State) → RepresentIn schema_version.One (state g conn).now.trees s → IsAtRestOver schema_version.One (state g store) → (state g store).now ≡ (state g conn).now → ContainsOldRows (rows_of s) (state g store)
     holds_old s represents rest same = record { rest = rest; represents = subst (λ (d : Database). OldRepresentsRows (rows_of s) d.trees) (sym same) represents.rows }
 
     module _ (desk : DeskState S) (up : MigratedDesk g machine store desk) (disk : HasCleanDisk (state g desk.held)) where

@@ -9,7 +9,7 @@ use Rattle.office_rules.specs.Rows.{rows_of}
 use Rattle.office_rules.specs.State.{State, Office}
 use Rattle.office_rules.specs.declared.act.Act.{Act}
 use Rattle.office_rules.specs.declared.answer.Answer.{Answer}
-use Rattle.office_store.specs.RepresentsRows.{HoldsRows}
+use Rattle.office_store.specs.RepresentsRows.{ContainsRows}
 use Rattle.office_store.specs.declared.fault.Fault.{Fault}
 use Rattle.office_store.specs.declared.fault.Fault.TheVariants as fault
 use Rattle.office_sql.specs.Office.{Leaves, SparesRest}
@@ -60,7 +60,7 @@ stops_reopen office f d is gone = subst (λ (it : Fault). StopsAt office it d) (
 
 pub leaves_reopen : {S : Type 0} (g : Ghosts S) (s next : State) (f : Fault) (done d : DeskState S) → f ≡ fault.Reopen → d.held ≡ done.held → IsAt g next done → StopsLeaving s next f (state g d.held)
 leaves_reopen g s next f done d is held represents =
-    subst (λ (it : Fault). StopsLeaving s next it (state g d.held)) (sym is) (subst (λ it. HoldsRows (rows_of next) (state g it)) (sym held) represents.rows)
+    subst (λ (it : Fault). StopsLeaving s next it (state g d.held)) (sym is) (subst (λ it. ContainsRows (rows_of next) (state g it)) (sym held) represents.rows)
 
 -- ---- what was called so far, and one more
 

@@ -12,7 +12,7 @@ use Rattle.office_rules.specs.declared.act.Act.{Act}
 use Rattle.office_rules.specs.declared.answer.Answer.{Answer}
 use Rattle.office_rules.specs.declared.change.Change.{Change}
 use Rattle.office_sql.specs.Office.{Leaves, SparesRest}
-use Rattle.office_store.specs.RepresentsRows.{HoldsRows, LeavesOffices}
+use Rattle.office_store.specs.RepresentsRows.{ContainsRows, LeavesOffices}
 use Rattle.office_store.specs.declared.fault.Fault.{Fault}
 use Rattle.office_store.specs.declared.fault.Fault.TheVariants as fault
 use Rattle.office_desk.specs.Desk.{DeskState}
@@ -51,7 +51,7 @@ pub record IsPoisoned {S : Type 0} (f : Fault) (new : DeskState S) : Type 0 wher
 pub record IsSaved {S : Type 0} (g : Ghosts S) (s : State) (change : Change) (answer : Answer) (old new : DeskState S)
     (Pre : Type 0) : Type 0 where
   pub made : IsMade change answer old new
-  pub rows : Pre → HoldsRows (rows_of (all_writes change.writes.items s)) (state g new.held)
+  pub rows : Pre → ContainsRows (rows_of (all_writes change.writes.items s)) (state g new.held)
 
 -- a fault on the way from a state to the next
 pub record IsFaulted {S : Type 0} (g : Ghosts S) (s next : State) (f : Fault) (old new : DeskState S) (Pre : Type 0) :

@@ -12,7 +12,7 @@ use Rattle.office_rules.specs.Sound.{IsSound}
 use Rattle.office_rules.specs.State.{State}
 use Rattle.office_rules.specs.declared.act.Act.{Act}
 use Rattle.office_rules.specs.declared.answer.Answer.{Answer}
-use Rattle.office_store.specs.RepresentsRows.{HoldsRows, LeavesOffices}
+use Rattle.office_store.specs.RepresentsRows.{ContainsRows, LeavesOffices}
 use Rattle.office_store.specs.declared.fault.Fault.{Fault}
 use Rattle.office_store.specs.declared.fault.Fault.TheVariants as fault
 use Rattle.office_desk.specs.Calling.{LeavesRestOf}
@@ -58,13 +58,13 @@ ActsLead s acts (all_done told) d = (d.office ≡ (after s acts).office) × (d.i
 ActsLead s acts (stopped told f) d = StopsAt (after s (take (length told) acts)).office f d
 
 -- a crash leaves the tables of this sound state
-pub record HoldsState (s : State) (held : sqlite.State) : Type 0 where
+pub record ContainsState (s : State) (held : sqlite.State) : Type 0 where
   pub sound : IsSound s
-  pub rows : HoldsRows (rows_of s) held
+  pub rows : ContainsRows (rows_of s) held
 
 -- a crash leaves the tables after all acts; or, by the fault, those after the answered ones or after one more
 abbrev pub ActsLeave : State → List Act → ActsOutcome → sqlite.State → Type 0
-ActsLeave s acts (all_done told) held = HoldsState (after s acts) held
+ActsLeave s acts (all_done told) held = ContainsState (after s acts) held
 ActsLeave s acts (stopped told f) held =
     StopsLeaving (after s (take (length told) acts)) (after s (take (length told + 1) acts)) f held
 

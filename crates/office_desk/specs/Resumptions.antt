@@ -7,7 +7,7 @@ use Rattle.office_rules.specs.Rows.{rows_of}
 use Rattle.office_rules.specs.Runs.{IsMidway, after_steps, open_run, whole}
 use Rattle.office_rules.specs.State.{State}
 use Rattle.office_rules.specs.declared.answer.Answer.{Answer}
-use Rattle.office_store.specs.RepresentsRows.{HoldsRows, LeavesOffices}
+use Rattle.office_store.specs.RepresentsRows.{ContainsRows, LeavesOffices}
 use Rattle.office_store.specs.declared.fault.Fault.{Fault}
 use Rattle.office_desk.specs.Calling.{AreStepsStopped, WasAt}
 use Rattle.office_desk.specs.Desk.{DeskState}
@@ -80,8 +80,8 @@ pub record RunCameTo {S : Type 0} (g : Ghosts S) (s : State) (o : RunOutcome) (d
 
 -- a crash leaves the tables of these states
 abbrev pub RunLeaves : State → RunOutcome → sqlite.State → Type 0
-RunLeaves s (run_closed run) held = HoldsRows (rows_of (whole s run)) held
-RunLeaves s none_open held = HoldsRows (rows_of s) held
+RunLeaves s (run_closed run) held = ContainsRows (rows_of (whole s run)) held
+RunLeaves s none_open held = ContainsRows (rows_of s) held
 RunLeaves s (run_stopped f) held = (n : ℕ) × StopsLeaving (after_steps s n) (after_steps s (suc n)) f held
 
 -- the same of the file
@@ -89,7 +89,7 @@ pub record RunLeft (o : RunOutcome) (held : sqlite.State) (s : State) : Type 0 w
   pub fits : IsRunOf s o
   pub leaves : RunLeaves s o held
   pub whole : IsNotStopped o → (begun : State) (run : ℕ) → open_run begun.office ≡ Some run → IsMidway begun run s
-      → HoldsRows (rows_of (whole begun run)) held
+      → ContainsRows (rows_of (whole begun run)) held
   pub midway : (begun : State) (run : ℕ) → open_run begun.office ≡ Some run → IsMidway begun run s
       → LeavesMidway begun run held
   pub none : open_run s.office ≡ None → LeavesRowsOf s held

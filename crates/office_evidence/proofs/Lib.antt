@@ -16,3 +16,4 @@ pub mod Splitting
 pub mod Picking
 pub mod Kept
 pub mod Chains
+pub mod CertificateTexts

@@ -4,7 +4,7 @@ use Rattle.std.specs.Prelude.{IsSome}
 use Rattle.std.proofs.lemmas.Bool.{and_parts}
 use Rattle.std.proofs.lemmas.Int.{ints}
 use Rattle.office_records.specs.Disposal.{counts, is_disposal}
-use Rattle.office_records.specs.Lists.{holds_of, numbered}
+use Rattle.office_records.specs.Lists.{is_some_and, numbered}
 use Rattle.office_records.specs.Tree.{TreeState, action_of, due_of, status_of}
 use Rattle.office_records.specs.declared.action.Action.{Action}
 use Rattle.office_records.specs.declared.action.Action.TheVariants as action
@@ -30,9 +30,9 @@ same_outcome o p e = cc
 -- what was due
 was_due : (tree : TreeState) (r : ℕ) (day : ℤ) (planned : Action) → status_of tree r ≡ Some status.Here → action_of tree r ≡ Some planned → may_begin tree r day ≡ true → WasDue tree r day planned
 was_due tree r day planned here plan may =
-    let due_test = holds_of (due_of tree r) (λ due. int_le due day) in
-    let parts = and_parts (holds_of (action_of tree r) is_disposal && due_test) (counts tree r) may in
-    let due = holds_is (due_of tree r) (λ (due : ℤ). int_le due day) (and_parts (holds_of (action_of tree r) is_disposal) due_test parts.0).1 in
+    let due_test = is_some_and (due_of tree r) (λ due. int_le due day) in
+    let parts = and_parts (is_some_and (action_of tree r) is_disposal && due_test) (counts tree r) may in
+    let due = holds_is (due_of tree r) (λ (due : ℤ). int_le due day) (and_parts (is_some_and (action_of tree r) is_disposal) due_test parts.0).1 in
     record { here = here; action = plan; due = (due.0, due.1, le_of due.0 day due.2); confirmed = parts.1 }
 
 module _ (s : State) (r : ℕ) (day : ℤ) (o : Outcome) where

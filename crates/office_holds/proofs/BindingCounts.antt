@@ -10,7 +10,7 @@ use Rattle.std.specs.FinMap.Entries.{by_order, find, put}
 use Rattle.std.specs.FinSet.{contains}
 use Rattle.std.specs.List.{list_any}
 use Rattle.std.proofs.lemmas.Bool.Decides.{nat_tests}
-use Rattle.office_records.specs.Lists.{amended, amended_by, holds_of}
+use Rattle.office_records.specs.Lists.{amended, amended_by, is_some_and}
 use Rattle.office_records.specs.Tree.{code_cmp}
 use Rattle.office_holds.specs.HoldCounts.{binding_count, binds, binds_at}
 use Rattle.office_rules.specs.Holds.{HoldMap, HoldState, held_in, is_held_class, is_in_force}
@@ -31,20 +31,20 @@ before_both : (k q : List ℕ) → code_cmp k q ≡ Less → code_cmp q k ≡ Le
 before_both k q before after = let turned = nat_list_cmp_total.antisymm q k ∙ ap ordering_reverse before in absurd cc
 
 -- a code before the first entry is not found
-none_found : {V : Type 0} (test : V → Bool) (k : List ℕ) (e : List ℕ × V) (es : List (List ℕ × V)) (o : Option V) → Rises (e ∷ es) → code_cmp k e.0 ≡ Less → find code_cmp k es ≡ o → holds_of o test ≡ false
+none_found : {V : Type 0} (test : V → Bool) (k : List ℕ) (e : List ℕ × V) (es : List (List ℕ × V)) (o : Option V) → Rises (e ∷ es) → code_cmp k e.0 ≡ Less → find code_cmp k es ≡ o → is_some_and o test ≡ false
 none_found test k e es None rises before is = refl
 none_found test k e es (Some v) rises before is = absurd (before_both k e.0 before (found_after e.0 k v es rises.0 is))
 
 count_put_by : {V : Type 0} (test : V → Bool) (k : List ℕ) (v : V) (e : List ℕ × V) (es : List (List ℕ × V)) (r : Ordering) → Rises (e ∷ es) → code_cmp k e.0 ≡ r
-    → count_in test (put code_cmp k v es) + one_if (holds_of (find code_cmp k es) test) ≡ count_in test es + one_if (test v)
-    → count_in test (by_order r ((k, v) ∷ e ∷ es) ((e.0, v) ∷ es) (e ∷ put code_cmp k v es)) + one_if (holds_of (cond (is_eq r) (Some e.1) (find code_cmp k es)) test) ≡ count_in test (e ∷ es) + one_if (test v)
+    → count_in test (put code_cmp k v es) + one_if (is_some_and (find code_cmp k es) test) ≡ count_in test es + one_if (test v)
+    → count_in test (by_order r ((k, v) ∷ e ∷ es) ((e.0, v) ∷ es) (e ∷ put code_cmp k v es)) + one_if (is_some_and (cond (is_eq r) (Some e.1) (find code_cmp k es)) test) ≡ count_in test (e ∷ es) + one_if (test v)
 count_put_by test k v e es Less rises is rest =
     let none = ap one_if (none_found test k e es (find code_cmp k es) rises is refl) in omega (arith, none, count_first test (k, v) (e ∷ es))
 count_put_by test k v e es Equal rises is rest = omega (arith, count_first test (e.0, v) es, count_first test e es)
 count_put_by test k v e es Greater rises is rest = omega (arith, rest, count_first test e (put code_cmp k v es), count_first test e es)
 
 -- an entry that is put in counts if it passes, in place of the one that was there
-count-put : {V : Type 0} (test : V → Bool) (k : List ℕ) (v : V) (es : List (List ℕ × V)) → Rises es → count_in test (put code_cmp k v es) + one_if (holds_of (find code_cmp k es) test) ≡ count_in test es + one_if (test v)
+count-put : {V : Type 0} (test : V → Bool) (k : List ℕ) (v : V) (es : List (List ℕ × V)) → Rises es → count_in test (put code_cmp k v es) + one_if (is_some_and (find code_cmp k es) test) ≡ count_in test es + one_if (test v)
 count-put test k v [] rises = omega (arith, count_first test (k, v) [])
 count-put test k v (e ∷ es) rises = count_put_by test k v e es (code_cmp k e.0) rises refl (count-put test k v es rises.1)
 
@@ -57,19 +57,19 @@ count-le test (x ∷ xs) = elim (test x) as (λ b. length (cond b (x ∷ filter 
 pub binding_count-insert : (holds : HoldMap) (k : List ℕ) (hold : HoldState) (t : Target) → binding_count (insert holds k hold) t + one_if (binds_at holds k t) ≡ binding_count holds t + one_if (binds t hold)
 unfolding binding_count
 binding_count-insert holds k hold t =
-    (λ i. count_in (binds t) (entries-insert nat_list_cmp_total holds k hold i) + one_if (holds_of (get-entries holds k i) (binds t))) ∙ count-put (binds t) k hold (entries holds) (entries_rise holds)
+    (λ i. count_in (binds t) (entries-insert nat_list_cmp_total holds k hold i) + one_if (is_some_and (get-entries holds k i) (binds t))) ∙ count-put (binds t) k hold (entries holds) (entries_rise holds)
 
 amended_count_by : (holds : HoldMap) (k : List ℕ) (change : HoldState → HoldState) (t : Target) (o : Option HoldState) → get holds k ≡ o
-    → binding_count (amended_by holds k change o) t + one_if (holds_of o (binds t)) ≡ binding_count holds t + one_if (holds_of o (λ hold. binds t (change hold)))
+    → binding_count (amended_by holds k change o) t + one_if (is_some_and o (binds t)) ≡ binding_count holds t + one_if (is_some_and o (λ hold. binds t (change hold)))
 amended_count_by holds k change t None is = refl
 amended_count_by holds k change t (Some hold) is =
     let e = binding_count-insert holds k (change hold) t in
-    let here = ap (λ (o : Option HoldState). one_if (holds_of o (binds t))) is in
+    let here = ap (λ (o : Option HoldState). one_if (is_some_and o (binds t))) is in
     omega (arith, e, here)
 
 -- a hold that is changed counts if it binds then, in place of what it did
 pub binding_count-amended : (holds : HoldMap) (k : List ℕ) (change : HoldState → HoldState) (t : Target)
-    → binding_count (amended holds k change) t + one_if (binds_at holds k t) ≡ binding_count holds t + one_if (holds_of (get holds k) (λ hold. binds t (change hold)))
+    → binding_count (amended holds k change) t + one_if (binds_at holds k t) ≡ binding_count holds t + one_if (is_some_and (get holds k) (λ hold. binds t (change hold)))
 binding_count-amended holds k change t = amended_count_by holds k change t (get holds k) refl
 
 values_length : {V : Type 0} (es : List (List ℕ × V)) → length (map (λ e. e.1) es) ≡ length es

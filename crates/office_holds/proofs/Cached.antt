@@ -10,7 +10,7 @@ use Rattle.std.specs.Prelude.{nat_lt, slice_get}
 use Rattle.std.specs.List.{list_any}
 use Rattle.std.specs.List.Sorted.{IsStrictlySortedBy}
 use Rattle.std.specs.FinSet.{FinSet, contains, contains-from_list, contains-insert, contains-remove, from_list}
-use Rattle.office_records.specs.Lists.{amended, holds_of}
+use Rattle.office_records.specs.Lists.{amended, is_some_and}
 use Rattle.office_records.specs.Tree.{code_cmp}
 use Rattle.office_records.proofs.Inserting.{get-amended, same_code}
 use Rattle.office_rules.specs.HoldEffects.{held_off, held_on, lifted_hold, with_target, without_target}
@@ -47,13 +47,13 @@ unbound_by (Some day) b e = refl
 
 module _ (holds : HoldMap) (k : List ℕ) where
   pub bound_there : (hold : HoldState) (t : Target) → get holds k ≡ Some hold → is_some hold.lifted ≡ false → has_target hold t ≡ binds_at holds k t
-  bound_there hold t there force = bound_by hold.lifted (has_target hold t) force ∙ sym (ap (λ (o : Option HoldState). holds_of o (binds t)) there)
+  bound_there hold t there force = bound_by hold.lifted (has_target hold t) force ∙ sym (ap (λ (o : Option HoldState). is_some_and o (binds t)) there)
 
   pub lifted_there : (hold : HoldState) (t : Target) → get holds k ≡ Some hold → is_some hold.lifted ≡ true → binds_at holds k t ≡ false
-  lifted_there hold t there lifted = ap (λ (o : Option HoldState). holds_of o (binds t)) there ∙ unbound_by hold.lifted (has_target hold t) lifted
+  lifted_there hold t there lifted = ap (λ (o : Option HoldState). is_some_and o (binds t)) there ∙ unbound_by hold.lifted (has_target hold t) lifted
 
   pub none_there : (t : Target) → get holds k ≡ None → binds_at holds k t ≡ false
-  none_there t none = ap (λ (o : Option HoldState). holds_of o (binds t)) none
+  none_there t none = ap (λ (o : Option HoldState). is_some_and o (binds t)) none
 
 -- ---- no holds
 
@@ -69,7 +69,7 @@ module _ (holds : HoldMap) (k : List ℕ) (day : ℤ) where
   abbrev lift_hold : HoldState → HoldState
   lift_hold hold = record hold { lifted = Some day }
 
-  lifted_counts : (t : Target) (o : Option HoldState) → holds_of o (λ hold. binds t (lift_hold hold)) ≡ false
+  lifted_counts : (t : Target) (o : Option HoldState) → is_some_and o (λ hold. binds t (lift_hold hold)) ≡ false
   lifted_counts t None = refl
   lifted_counts t (Some hold) = refl
 
@@ -104,7 +104,7 @@ module _ (holds : HoldMap) (k : List ℕ) (row : HoldRow) where
   abbrev set_columns : HoldState → HoldState
   set_columns hold = hold_from row (Some hold)
 
-  same_counts : (t : Target) (o : Option HoldState) → ((hold : HoldState) → o ≡ Some hold → is_none hold.lifted ≡ is_none row.lifted) → holds_of o (λ hold. binds t (set_columns hold)) ≡ holds_of o (binds t)
+  same_counts : (t : Target) (o : Option HoldState) → ((hold : HoldState) → o ≡ Some hold → is_none hold.lifted ≡ is_none row.lifted) → is_some_and o (λ hold. binds t (set_columns hold)) ≡ is_some_and o (binds t)
   same_counts t None same = refl
   same_counts t (Some hold) same = ap (λ b. b && has_target (set_columns hold) t) (sym (same hold refl)) ∙ ap (λ b. is_in_force hold && b) (same_targets t hold) where
     same_targets : (t : Target) (hold : HoldState) → has_target (set_columns hold) t ≡ has_target hold t
@@ -172,7 +172,7 @@ pub AreCached-added : (holds : HoldMap) (k : List ℕ) (row : HoldRow) (counts :
 AreCached-added holds k row counts codes free there kept = record {
   counted = λ t.
       let e = binding_count-insert holds k (hold_from row None) t in
-      let none = ap (λ (o : Option HoldState). one_if (holds_of o (binds t))) free in
+      let none = ap (λ (o : Option HoldState). one_if (is_some_and o (binds t))) free in
       let no_target = ap (λ b. one_if (is_none row.lifted && b)) (bare_none row t) ∙ none_left (is_none row.lifted) in
       omega (arith, e, none, no_target, kept.counted t);
   in_force = OfEach-insert (IsAmong codes) holds k (hold_from row None) kept.in_force (λ _. there);
@@ -208,7 +208,7 @@ gained true true has true e = let h = ap one_if (e refl) in omega (arith, h)
 gained true true has false e = let h = ap one_if (e refl) in omega (arith, h)
 
 gained_at : (n t : Target) (o : Option HoldState)
-    → one_if (holds_of o (λ hold. binds t (with_target n hold))) ≡ one_if (holds_of o (binds t)) + one_if (holds_of o (λ hold. is_in_force hold && not (has_target hold n)) && same_target n t)
+    → one_if (is_some_and o (λ hold. binds t (with_target n hold))) ≡ one_if (is_some_and o (binds t)) + one_if (is_some_and o (λ hold. is_in_force hold && not (has_target hold n)) && same_target n t)
 gained_at n t None = refl
 gained_at n t (Some hold) =
     (λ i. one_if (in_force-with_target n hold i && has-with_target n t hold i))
@@ -267,7 +267,7 @@ lost true true has true e = let h = ap one_if (e refl) in omega (arith, h)
 lost true true has false e = let h = ap one_if (e refl) in omega (arith, h)
 
 lost_at : (n t : Target) (o : Option HoldState)
-    → one_if (holds_of o (binds t)) ≡ one_if (holds_of o (λ hold. binds t (without_target n hold))) + one_if (holds_of o (binds n) && same_target n t)
+    → one_if (is_some_and o (binds t)) ≡ one_if (is_some_and o (λ hold. binds t (without_target n hold))) + one_if (is_some_and o (binds n) && same_target n t)
 lost_at n t None = refl
 lost_at n t (Some hold) =
     lost (is_in_force hold) (same_target n t) (has_target hold t) (has_target hold n) (λ same. ap (has_target hold) (sym (same_is_equal n t same)))
@@ -314,10 +314,10 @@ first_part false b e = e
 
 -- and the first of the cached codes whose hold covers it is the least of those that do
 pub least_by_cached : (holds : HoldMap) (counts : HoldCounts) (ks : List (List ℕ)) (r : ℕ) (above : List ℕ) (class : Option (List ℕ)) → AreCached holds counts (from_list {R = code_cmp} ks) → IsStrictlySortedBy code_cmp ks
-    → slice_get (filter (λ code. holds_of (get holds code) (λ hold. hold_covers hold r above class)) ks) 0 ≡ slice_get (covers_in holds r above class) 0
+    → slice_get (filter (λ code. is_some_and (get holds code) (λ hold. hold_covers hold r above class)) ks) 0 ≡ slice_get (covers_in holds r above class) 0
 unfolding covers_in
 least_by_cached holds counts ks r above class kept sorted =
     let test : HoldState → Bool = λ hold. hold_covers hold r above class in
-    (λ i. slice_get (filter (λ code. holds_of (get-entries holds code i) test) ks) 0)
+    (λ i. slice_get (filter (λ code. is_some_and (get-entries holds code i) test) ks) 0)
     ∙ first_among test (entries holds) ks (entries_rise holds) sorted
     (λ q (hold, found, covers). sym (contains-from_list nat_list_cmp_total ks q) ∙ kept.in_force q hold (get-entries holds q ∙ found) (first_part (is_in_force hold) _ covers))

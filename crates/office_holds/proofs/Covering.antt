@@ -5,7 +5,7 @@ use Rattle.std.specs.List.{list_any}
 use Rattle.std.specs.declared.cmp.Ordering.TheVariants.{Greater}
 use Rattle.std.specs.FinMap.{entries, get-entries}
 use Rattle.std.specs.FinSet.{FinSet, contains}
-use Rattle.office_records.specs.Lists.{holds_of}
+use Rattle.office_records.specs.Lists.{is_some_and}
 use Rattle.office_records.specs.Sound.{IsSound}
 use Rattle.office_records.specs.Tree.{TreeState, code_cmp, above, class_of}
 use Rattle.office_rules.specs.Holds.{HoldMap, HoldState, is_in_force, hold_covers, held_in, is_held, covers_in, least_covering}
@@ -71,18 +71,18 @@ number_any p (x ∷ xs) a passes there = elim (or_true (x == a) (list_any (λ y.
 
 -- ---- what a hold covers
 
-class_there : (classes : FinSet code_cmp) (o : Option (List ℕ)) → holds_of o (contains classes) ≡ true → (class : List ℕ) × (contains classes class ≡ true) × (o ≡ Some class)
+class_there : (classes : FinSet code_cmp) (o : Option (List ℕ)) → is_some_and o (contains classes) ≡ true → (class : List ℕ) × (contains classes class ≡ true) × (o ≡ Some class)
 class_there classes None h = absurd cc
 class_there classes (Some class) h = (class, h, refl)
 
-there_class : (classes : FinSet code_cmp) (o : Option (List ℕ)) (class : List ℕ) → contains classes class ≡ true → o ≡ Some class → holds_of o (contains classes) ≡ true
-there_class classes o class h is = ap (λ o. holds_of o (contains classes)) is ∙ h
+there_class : (classes : FinSet code_cmp) (o : Option (List ℕ)) (class : List ℕ) → contains classes class ≡ true → o ≡ Some class → is_some_and o (contains classes) ≡ true
+there_class classes o class h is = ap (λ o. is_some_and o (contains classes)) is ∙ h
 
 abbrev is_over : HoldState → TreeState → ℕ → Bool
 is_over hold tree r = list_any (contains hold.aggregations) (above tree r)
 
 abbrev is_classed : HoldState → TreeState → ℕ → Bool
-is_classed hold tree r = holds_of (class_of tree r) (contains hold.classes)
+is_classed hold tree r = is_some_and (class_of tree r) (contains hold.classes)
 
 -- the record, an aggregation above it or its class is a target
 abbrev is_target : HoldState → TreeState → ℕ → Bool

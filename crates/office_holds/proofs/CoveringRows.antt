@@ -11,7 +11,7 @@ use Rattle.std.specs.FinMap.{entries, entries-insert, get, get-entries, get-inse
 use Rattle.std.specs.FinMap.Entries.{by_order, find, put}
 use Rattle.std.specs.FinSet.{contains, contains-insert}
 use Rattle.std.proofs.lemmas.Map.Text.{is_eq-slice_cmp}
-use Rattle.office_records.specs.Lists.{amended_by, holds_of}
+use Rattle.office_records.specs.Lists.{amended_by, is_some_and}
 use Rattle.office_records.specs.Tree.{code_cmp}
 use Rattle.office_records.proofs.Inserting.{get-amended, same_code}
 use Rattle.office_rules.specs.HoldEffects.{held_on, with_target}
@@ -67,17 +67,17 @@ row-with_target (target.Record r) hold = refl
 -- ---- the targets of all holds
 
 put_by : (new t : Target) (b same_byte : Bool) (here there : Option HoldState) → IsSome here → b ≡ same_byte → (b ≡ true → there ≡ here)
-    → holds_of (cond b (option_map (with_target new) here) there) (λ hold. has_target hold t) ≡ ((same_byte && same_target new t) || holds_of there (λ hold. has_target hold t))
+    → is_some_and (cond b (option_map (with_target new) here) there) (λ hold. has_target hold t) ≡ ((same_byte && same_target new t) || is_some_and there (λ hold. has_target hold t))
 put_by new t true true None there is e same = absurd cc
-put_by new t true true (Some hold) there is e same = has-with_target new t hold ∙ ap (λ (o : Option HoldState). same_target new t || holds_of o (λ it. has_target it t)) (sym (same refl))
+put_by new t true true (Some hold) there is e same = has-with_target new t hold ∙ ap (λ (o : Option HoldState). same_target new t || is_some_and o (λ it. has_target it t)) (sym (same refl))
 put_by new t true false here there is e same = absurd cc
 put_by new t false true here there is e same = absurd cc
 put_by new t false false here there is e same = refl
 
 pub target-held_on : (holds : HoldMap) (code : List ℕ) (new : Target) (q : List ℕ) (t : Target) → IsSome (get holds code)
-    → holds_of (get (held_on holds code new) q) (λ hold. has_target hold t) ≡ (is_pair code new q t || holds_of (get holds q) (λ hold. has_target hold t))
+    → is_some_and (get (held_on holds code new) q) (λ hold. has_target hold t) ≡ (is_pair code new q t || is_some_and (get holds q) (λ hold. has_target hold t))
 target-held_on holds code new q t is =
-    ap (λ (o : Option HoldState). holds_of o (λ hold. has_target hold t)) (get-amended holds code (with_target new) q)
+    ap (λ (o : Option HoldState). is_some_and o (λ hold. has_target hold t)) (get-amended holds code (with_target new) q)
     ∙ put_by new t (eq_by_cmp code_cmp q code) (bytes_eq code q) (get holds code) (get holds q) is (tied_code q code) (λ tie. ap (get holds) (same_code q code tie))
 
 -- ---- the columns of all holds

@@ -9,7 +9,7 @@ use Rattle.std.specs.FinMap.Entries.{find}
 use Rattle.std.specs.List.{AllByRecursion, list_any}
 use Rattle.std.specs.List.Sorted.{IsStrictlySortedBy}
 use Rattle.std.proofs.lemmas.Map.Keys.{sorted_head, sorted_tail}
-use Rattle.office_records.specs.Lists.{holds_of}
+use Rattle.office_records.specs.Lists.{is_some_and}
 use Rattle.office_records.specs.Tree.{code_cmp}
 use Rattle.office_records.proofs.Inserting.{same_code}
 use Rattle.office_holds.proofs.CoveringRows.{codes_apart}
@@ -93,18 +93,18 @@ least_passing : {V : Type 0} (test : V → Bool) (es : List (List ℕ × V)) (o 
 least_passing test es None rises first = λ q passes. absurd (true≢false (sym (passes_any test es q passes) ∙ (none_passes test es).0 first))
 least_passing test es (Some c) rises first = first_least test es c rises first
 
-passing : {V : Type 0} (test : V → Bool) (o : Option V) → holds_of o test ≡ true → (v : V) × (o ≡ Some v) × (test v ≡ true)
+passing : {V : Type 0} (test : V → Bool) (o : Option V) → is_some_and o test ≡ true → (v : V) × (o ≡ Some v) × (test v ≡ true)
 passing test None e = absurd cc
 passing test (Some v) e = (v, refl, e)
 
-is_passing : {V : Type 0} (test : V → Bool) (es : List (List ℕ × V)) (q : List ℕ) → Passes test es q → holds_of (find code_cmp q es) test ≡ true
-is_passing {V} test es q (v, found, passes) = ap (λ (o : Option V). holds_of o test) found ∙ passes
+is_passing : {V : Type 0} (test : V → Bool) (es : List (List ℕ × V)) (q : List ℕ) → Passes test es q → is_some_and (find code_cmp q es) test ≡ true
+is_passing {V} test es q (v, found, passes) = ap (λ (o : Option V). is_some_and o test) found ∙ passes
 
 -- among codes in order that have the code of each entry that passes, the first whose entry passes is that of the first entry that does
 pub first_among : {V : Type 0} (test : V → Bool) (es : List (List ℕ × V)) (ks : List (List ℕ)) → Rises es → IsStrictlySortedBy code_cmp ks → ((q : List ℕ) → Passes test es q → IsIn ks q)
-    → slice_get (filter (λ k. holds_of (find code_cmp k es) test) ks) 0 ≡ first_passing test es
+    → slice_get (filter (λ k. is_some_and (find code_cmp k es) test) ks) 0 ≡ first_passing test es
 first_among test es ks rises sorted all =
-    let here : List ℕ → Bool = λ k. holds_of (find code_cmp k es) test in
+    let here : List ℕ → Bool = λ k. is_some_and (find code_cmp k es) test in
     one_least (Passes test es) (slice_get (filter here ks) 0) (first_passing test es)
     (least_alike (IsOneOf here ks) (Passes test es) (λ q is. passing test (find code_cmp q es) is.1) (λ q is. (all q is, is_passing test es q is)) (slice_get (filter here ks) 0) (least_of here ks sorted))
     (least_passing test es (first_passing test es) rises refl)

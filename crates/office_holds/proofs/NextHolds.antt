@@ -13,7 +13,7 @@ use Rattle.std.proofs.lemmas.Bool.Decides.{nat_tests}
 use Rattle.std.proofs.lemmas.List.{length-append}
 use Rattle.std.proofs.lemmas.List.Elements.{All-from_recursion, All-head, All-tail}
 use Rattle.office_base.proofs.Ascending.{above_prefix}
-use Rattle.office_records.specs.Lists.{holds_of}
+use Rattle.office_records.specs.Lists.{is_some_and}
 use Rattle.office_records.specs.Tree.{code_cmp}
 use Rattle.office_records.proofs.Inserting.{len-insert_free, same_code}
 use Rattle.office_rules.specs.HoldForms.{FitsHoldLimits}
@@ -50,8 +50,8 @@ pub get-above : (holds : HoldMap) (code : List ℕ) → IsAbove holds code → g
 get-above holds code above = get-entries holds code ∙ none_found (entries holds) code above
 
 none_there : (row : HoldRow) (t : Target) (tie : Bool) (there : Option HoldState) → (tie ≡ true → there ≡ None)
-    → holds_of (cond tie (Some (hold_from row None)) there) (λ hold. has_target hold t) ≡ holds_of there (λ hold. has_target hold t)
-none_there row t true there free = bare_none row t ∙ sym (ap (λ (o : Option HoldState). holds_of o (λ hold. has_target hold t)) (free refl))
+    → is_some_and (cond tie (Some (hold_from row None)) there) (λ hold. has_target hold t) ≡ is_some_and there (λ hold. has_target hold t)
+none_there row t true there free = bare_none row t ∙ sym (ap (λ (o : Option HoldState). is_some_and o (λ hold. has_target hold t)) (free refl))
 none_there row t false there free = refl
 
 module _ (holds : HoldMap) (code : List ℕ) (row : HoldRow) (above : IsAbove holds code) where
@@ -67,8 +67,8 @@ module _ (holds : HoldMap) (code : List ℕ) (row : HoldRow) (above : IsAbove ho
         ∙ ap (λ prefix. prefix ++ (code, row) ∷ []) are.columns;
     targets_exist = λ q t.
         are.targets_exist q t
-        ∙ sym (ap (λ h. holds_of (get h q) (λ hold. has_target hold t)) put_bare
-        ∙ ap (λ (o : Option HoldState). holds_of o (λ hold. has_target hold t)) (get-insert nat_list_cmp_total holds code (hold_from row None) q)
+        ∙ sym (ap (λ h. is_some_and (get h q) (λ hold. has_target hold t)) put_bare
+        ∙ ap (λ (o : Option HoldState). is_some_and o (λ hold. has_target hold t)) (get-insert nat_list_cmp_total holds code (hold_from row None) q)
         ∙ none_there row t (eq_by_cmp code_cmp q code) (get holds q) (λ tie. ap (get holds) (same_code q code tie) ∙ get-above holds code above));
   }
 

@@ -5,7 +5,7 @@ use Rattle.std.specs.Cmp.{nat_cmp_total}
 use Rattle.std.specs.Cmp.Lexicographic.{nat_list_cmp_total}
 use Rattle.std.specs.FinMap.{get, nat_cmp-IsAntisymmetric}
 use Rattle.std.specs.FinSet as set
-use Rattle.office_records.specs.Lists.{holds_of}
+use Rattle.office_records.specs.Lists.{is_some_and}
 use Rattle.office_records.proofs.Accepting.{below}
 use Rattle.office_rules.specs.HoldConditions.{target_count}
 use Rattle.office_rules.specs.HoldEffects.{held_on, with_target}
@@ -51,10 +51,10 @@ pub FitsHoldLimits-taken : (holds : HoldMap) (code : List ℕ) (t : Target) → 
 FitsHoldLimits-taken holds code t fits takes =
     amended_fits holds fits code (with_target t) (λ hold is.
     taken_by t hold (has_target hold t) refl (fits.targets_few code hold is)
-    (sym (ap (λ (o : Option HoldState). holds_of o (λ it. has_target it t || not (nat_le 1_000 (target_count it)))) is) ∙ takes))
+    (sym (ap (λ (o : Option HoldState). is_some_and o (λ it. has_target it t || not (nat_le 1_000 (target_count it)))) is) ∙ takes))
 
 -- what takes a target is there
-there_by : (o : Option HoldState) (test : HoldState → Bool) → holds_of o test ≡ true → IsSome o
+there_by : (o : Option HoldState) (test : HoldState → Bool) → is_some_and o test ≡ true → IsSome o
 there_by None test takes = absurd cc
 there_by (Some hold) test takes = refl
 

@@ -7,7 +7,7 @@ use Rattle.std.specs.FinMap.{get}
 use Rattle.std.specs.FinMap.Entries.{find}
 use Rattle.std.proofs.lemmas.Bool.Decides.{nat_tests}
 use Rattle.std.proofs.lemmas.List.Folds.{list_any-append}
-use Rattle.office_records.specs.Lists.{holds_of}
+use Rattle.office_records.specs.Lists.{is_some_and}
 use Rattle.office_records.specs.Tree.{code_cmp}
 use Rattle.office_records.proofs.Accepting.{neither, not_false}
 use Rattle.office_rules.specs.HoldConditions.{target_count}
@@ -51,7 +51,7 @@ has_either true b c e = refl
 has_either false true c e = refl
 has_either false false c e = absurd cc
 
-missing : (a b : Option HoldState) (test : HoldState → Bool) → option_map hold_row a ≡ option_map hold_row b → a ≡ None → holds_of b test ≡ true → ⊥
+missing : (a b : Option HoldState) (test : HoldState → Bool) → option_map hold_row a ≡ option_map hold_row b → a ≡ None → is_some_and b test ≡ true → ⊥
 missing a None test e none is = true≢false (sym is)
 missing None (Some hold) test e none is = absurd cc
 missing (Some other) (Some hold) test e none is = absurd cc
@@ -67,17 +67,17 @@ module _ (rows : List (List ℕ × HoldRow)) (done rest : List (List ℕ × Targ
   same_columns = sym (find-hold_rows holds code) ∙ ap (find code_cmp code) (are.columns ∙ sym all.columns) ∙ find-hold_rows represent code
 
   -- which targets a hold has among the rows
-  among : (t : Target) → holds_of (get represent code) (λ hold. has_target hold t) ≡ (list_any (λ e. is_pair e.0 e.1 code t) done || (is_pair code new code t || list_any (λ e. is_pair e.0 e.1 code t) rest))
+  among : (t : Target) → is_some_and (get represent code) (λ hold. has_target hold t) ≡ (list_any (λ e. is_pair e.0 e.1 code t) done || (is_pair code new code t || list_any (λ e. is_pair e.0 e.1 code t) rest))
   among t = sym (all.targets_exist code t) ∙ list_any-append (λ e. is_pair e.0 e.1 code t) done ((code, new) ∷ rest)
 
-  has_new : holds_of (get represent code) (λ hold. has_target hold new) ≡ true
+  has_new : is_some_and (get represent code) (λ hold. has_target hold new) ≡ true
   has_new = among new ∙ or_middle (list_any (λ e. is_pair e.0 e.1 code new) done) (is_pair code new code new) (list_any (λ e. is_pair e.0 e.1 code new) rest) (pair_itself code new)
 
   has_all : (it other : HoldState) → get holds code ≡ Some it → get represent code ≡ Some other → (t : Target) → has_target (with_target new it) t ≡ true → has_target other t ≡ true
   has_all it other is e t has =
-      let before : list_any (λ e. is_pair e.0 e.1 code t) done ≡ has_target it t = are.targets_exist code t ∙ ap (λ (o : Option HoldState). holds_of o (λ hold. has_target hold t)) is in
+      let before : list_any (λ e. is_pair e.0 e.1 code t) done ≡ has_target it t = are.targets_exist code t ∙ ap (λ (o : Option HoldState). is_some_and o (λ hold. has_target hold t)) is in
       let here : is_pair code new code t ≡ same_target new t = ap (λ b. b && same_target new t) (code_itself code) in
-      sym (ap (λ (o : Option HoldState). holds_of o (λ hold. has_target hold t)) e)
+      sym (ap (λ (o : Option HoldState). is_some_and o (λ hold. has_target hold t)) e)
       ∙ among t
       ∙ (λ i. before i || (here i || list_any (λ e. is_pair e.0 e.1 code t) rest))
       ∙ has_either (has_target it t) (same_target new t) (list_any (λ e. is_pair e.0 e.1 code t) rest) (sym (has-with_target new t it) ∙ has)
@@ -101,4 +101,4 @@ module _ (rows : List (List ℕ × HoldRow)) (done rest : List (List ℕ × Targ
     by_hold None is = missing (get holds code) (get represent code) (λ hold. has_target hold new) same_columns is has_new
     by_hold (Some it) is =
         let other = there (get holds code) (get represent code) it same_columns is in
-        too_many it other.0 is other.1 (sym (ap (λ (o : Option HoldState). holds_of o (λ hold. has_target hold new || not (nat_le 1_000 (target_count hold)))) is) ∙ refused)
+        too_many it other.0 is other.1 (sym (ap (λ (o : Option HoldState). is_some_and o (λ hold. has_target hold new || not (nat_le 1_000 (target_count hold)))) is) ∙ refused)

@@ -4,7 +4,7 @@ use Rattle.std.specs.Ordering.{nat_cmp}
 use Rattle.std.specs.BTreeMap.{ContainsKey}
 use Rattle.std.specs.FinMap.{get, values}
 use Rattle.std.specs.FinSet.{FinSet, contains}
-use Rattle.office_records.specs.Lists.{holds_of}
+use Rattle.office_records.specs.Lists.{is_some_and}
 use Rattle.office_records.specs.Tree.{code_cmp}
 use Rattle.office_rules.specs.Holds.{HoldMap, HoldState, has_target, is_in_force}
 use Rattle.office_holds.specs.Numbers.{number_at, one_if}
@@ -24,11 +24,11 @@ binding_count holds target = length (filter (binds target) (values holds))
 
 -- the hold of that code is there and in force, and has the target
 abbrev pub binds_at : HoldMap → List ℕ → Target → Bool
-binds_at holds code target = holds_of (get holds code) (binds target)
+binds_at holds code target = is_some_and (get holds code) (binds target)
 
 -- the hold of that code is there and in force, and has not the target yet
 abbrev pub may_gain : HoldMap → List ℕ → Target → Bool
-may_gain holds code target = holds_of (get holds code) (λ hold. is_in_force hold && not (has_target hold target))
+may_gain holds code target = is_some_and (get holds code) (λ hold. is_in_force hold && not (has_target hold target))
 
 -- ---- what is cached
 

@@ -3,7 +3,7 @@ ghost use Rattle.std.specs.Prelude.{◌≡◌, ◌&&◌, not, IsTrue, Some, None
 ghost use Rattle.std.specs.Option.{option_copied};
 ghost use Rattle.std.specs.Str.{bytes_eq};
 ghost use Rattle.office_records.specs.Effects.{reclassified};
-ghost use Rattle.office_records.specs.Lists.{holds_of};
+ghost use Rattle.office_records.specs.Lists.{is_some_and};
 ghost use Rattle.office_records.specs.Tree.{aggregation_class_of, class_of, has_aggregation, has_record};
 ghost use Rattle.office_records.specs.declared.classified.Classified.TheVariants as classified;
 ghost use Rattle.office_rules.specs.HoldConditions.{would_leave_held_class};
@@ -72,7 +72,7 @@ fn aggregation_class_after<'a>(
 
 /// Whether that class, if there is one, is this class.
 fn is_class(class: Option<&Code>, this: &Code) -> bool
-    ensures { result ≡ holds_of (option_copied class.entry) (bytes_eq this.now) }
+    ensures { result ≡ is_some_and (option_copied class.entry) (bytes_eq this.now) }
 {
     match class {
         Some(class) => this == class,
@@ -91,7 +91,7 @@ impl Holds {
     /// Whether a class is left for another, or for none, and a hold in force has it as a target.
     fn leaves(&self, old: &Code, new: Option<&Code>) -> bool
         ensures { result
-            ≡ (not (holds_of (option_copied new.entry) (bytes_eq old.now))
+            ≡ (not (is_some_and (option_copied new.entry) (bytes_eq old.now))
             && is_held_class self.now old.now) }
     {
         if is_class(new, old) {

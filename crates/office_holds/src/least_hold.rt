@@ -3,7 +3,7 @@ ghost use Rattle.std.specs.Prelude.{◌≡◌, Some, filter, slice_get};
 ghost use Rattle.std.specs.BTreeSet.{IsOrdered};
 ghost use Rattle.std.specs.FinMap.{from_entries, get};
 ghost use Rattle.std.specs.Option.{option_copied};
-ghost use Rattle.office_records.specs.Lists.{holds_of};
+ghost use Rattle.office_records.specs.Lists.{is_some_and};
 ghost use Rattle.office_records.specs.Tree.{code_cmp};
 ghost use Rattle.office_rules.specs.Holds.{hold_covers};
 
@@ -21,7 +21,7 @@ fn covers(
     class: &Code,
 ) -> bool
     ensures { result
-        ≡ holds_of (get (from_entries {R = code_cmp} holds.now.entries) code.now)
+        ≡ is_some_and (get (from_entries {R = code_cmp} holds.now.entries) code.now)
         (λ hold. hold_covers hold record_no above.now (Some class.now)) }
 {
     match holds.get(code) {
@@ -42,7 +42,7 @@ pub(crate) fn first_covering<'a>(
     ensures value { option_copied result
         ≡ slice_get
         (filter
-        (λ code. holds_of (get (from_entries {R = code_cmp} holds.now.entries) code)
+        (λ code. is_some_and (get (from_entries {R = code_cmp} holds.now.entries) code)
         (λ hold. hold_covers hold record_no above.now (Some class.now))) codes.now.keys)
         0 }
     ensures ordered { IsOrdered code_cmp codes.now }

@@ -18,7 +18,7 @@ use Rattle.office_rules.proofs.OpenRun.{closed_is_closed, length-runs, opened}
 use Rattle.office_sql.specs.declared.schema_versions.SchemaVersion.{SchemaVersion}
 use Rattle.office_sql.specs.declared.schema_versions.SchemaVersion.TheVariants as schema_version
 use Rattle.office_sql.specs.Office.{IsAtRestOver, IsOfficeIn}
-use Rattle.office_store.specs.RepresentsRows.{HoldsRows, RepresentsRows, RepresentsRowsIn}
+use Rattle.office_store.specs.RepresentsRows.{ContainsRows, RepresentsRows, RepresentsRowsIn}
 use Rattle.office_store.specs.declared.fault.Fault.{Fault}
 use Rattle.office_store.specs.declared.fault.Fault.TheVariants as fault
 use Rattle.office_desk.specs.Desk.{DeskState}
@@ -62,7 +62,7 @@ at_tables : (u : State) → IsSound u → (db : Trees) → IsOfficeIn schema_ver
 at_tables u sound db office rows = inl (record { schema_version = schema_version.Two; office = office; sound = sound; rows = rows })
 
 -- and alone
-at_rows : (new : FileState) (u : State) → IsSound u → HoldsRows (rows_of u) new → (db : Trees) → new.may_leave db → AreTablesAt db u
+at_rows : (new : FileState) (u : State) → IsSound u → ContainsRows (rows_of u) new → (db : Trees) → new.may_leave db → AreTablesAt db u
 at_rows new u sound holds db may =
     let is = sym (holds.rest.only db may) in
     at_tables u sound db (subst (λ (t : Trees). IsOfficeIn schema_version.Two t) is (new.now.schema, holds.rest.office)) (subst (λ (t : Trees). RepresentsRows (rows_of u) t) is holds.represents)

@@ -20,7 +20,7 @@ use Rattle.office_desk.specs.Leaving.{IsAt}
 use Rattle.office_desk.proofs.Found.{after-append}
 use Rattle.office_life.specs.Life.{AreKnownFrom, Did, Leads, LeadsOn, began, lived, stage_at_end}
 use Rattle.office_life.specs.Standing.{FilesLead, FindsLed, IsKnownAt, LeavesAt, RestsAt, Stage, StandsAt, half_made, stage_after, stored, unmade}
-use Rattle.office_life.specs.Tables.{HoldsTables}
+use Rattle.office_life.specs.Tables.{ContainTables}
 use Rattle.office_life.specs.declared.reports.Remains.{Remains}
 use Rattle.office_life.specs.declared.reports.Remains.TheVariants as remains
 use Rattle.office_life.specs.declared.reports.Report.{Report}
@@ -53,7 +53,7 @@ module _ {D : Type 0} (g : Ghosts D) (stays : SeenMayStay g) (files it : Files D
   pub worked :
       (stage : Stage) (was last : Held (FileStore D g)) (Leads : State → State → Type 0) → ((s : State) → StandsAt stage (image_of g files) s → RestsAt (file_state was) s)
       → ((s : State) → RestsAt (file_state was) s → LeavesAt (Leads s) (file_state last))
-      → ((image : Image) → outcomes g it.log it.db image → ∥ ((db : Trees) × (file_state last).may_leave db × HoldsTables image db) ∥₁)
+      → ((image : Image) → outcomes g it.log it.db image → ∥ ((db : Trees) × (file_state last).may_leave db × ContainTables image db) ∥₁)
       → FilesLead stage stored Leads (outcomes g files.log files.db) (outcomes g it.log it.db)
   worked stage was last Leads found leaves left image may = ∣ (
     image_of g files,

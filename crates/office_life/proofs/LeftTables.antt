@@ -20,26 +20,26 @@ use Rattle.sqlite_wal.specs.Files.{outcomes}
 use Rattle.sqlite_wal.specs.Recovery.{Image, IsIgnored}
 use Rattle.sqlite_wal.specs.Recovery as raw
 use Rattle.sqlite.specs.Closing.{files_left}
-use Rattle.sqlite.specs.Files.{HoldsDatabase, IsCleanLeft, IsEmpty, IsNothing, LeavesFiles, NamesSize, SaysSums, image_of}
+use Rattle.sqlite.specs.Files.{ContainDatabase, IsCleanLeft, IsEmpty, IsNothing, LeavesFiles, NamesSize, SaysSums, image_of}
 use Rattle.sqlite.specs.Held.{AreDatabases}
 use Rattle.sqlite.specs.declared.file.Leftover.{Leftover}
 use Rattle.sqlite.specs.declared.file.Leftover.TheVariants as left
 use Rattle.sqlite.proofs.FileLemmas.{is_something}
 use Rattle.office_rules.specs.State.{State}
 use Rattle.office_life.specs.Standing.{IsKnownAt, NeverLies, Stage, StandsAt, half_made, remains_of, stage_after, stored, unmade}
-use Rattle.office_life.specs.Tables.{HoldsTables}
+use Rattle.office_life.specs.Tables.{ContainTables}
 use Rattle.office_life.specs.declared.reports.Remains.{Remains}
 use Rattle.office_life.specs.declared.reports.Remains.TheVariants as remains
 
 -- files that hold tables hold a database
-pub database_of : (image : Image) (trees : Trees) → HoldsTables image trees → HoldsDatabase image trees
+pub database_of : (image : Image) (trees : Trees) → ContainTables image trees → ContainDatabase image trees
 database_of image trees h = (
   h.0,
   h.1,
   record { pages = h.2.pages; wanted = h.2.wanted; schema = h.2.schema; found = adopts_of h.0 image h.2.pages h.2.found; ours = h.2.ours; reads = h.2.reads; sound = h.2.sound },
 )
 
-module _ (size : ℕ) (old new : Image) (trees : Trees) (h : HoldsTables old trees) where
+module _ (size : ℕ) (old new : Image) (trees : Trees) (h : ContainTables old trees) where
   large : 504 ≤ h.0
   large = let few : reserved h.0 ≤ 8 = grind arith in omega (arith, h.1.0)
 
@@ -53,7 +53,7 @@ module _ (size : ℕ) (old new : Image) (trees : Trees) (h : HoldsTables old tre
             absurd (read (λ ignored. other (sym (size_by_file h.0 old h.2.pages adopted large h.2.ours.file.sound ignored) ∙ sym (named.1 ignored))))
       ]
 
-  moved : raw.Recovers (stored_size h.0) new h.2.found.stored → HoldsTables new trees
+  moved : raw.Recovers (stored_size h.0) new h.2.found.stored → ContainTables new trees
   moved now = (
     h.0,
     h.1,
@@ -105,7 +105,7 @@ module _ (size : ℕ) (old new : Image) (trees : Trees) (h : HoldsTables old tre
     ]
 
   -- what stands as files that hold tables holds them too
-  pub stands_same : NamesSize old (stored_size size) → (IsTrue (is_summed size) → SaysSums (stored_size size) old) → StandsAs size old new → HoldsTables new trees
+  pub stands_same : NamesSize old (stored_size size) → (IsTrue (is_summed size) → SaysSums (stored_size size) old) → StandsAs size old new → ContainTables new trees
   stands_same named sums stands =
       let same = same_size named in
       let before = subst (λ n. raw.Recovers n old h.2.found.stored) same h.2.found.found in
@@ -121,13 +121,13 @@ module _ (size : ℕ) (old new : Image) (trees : Trees) (h : HoldsTables old tre
 module _ {D : Type 0} {g : Ghosts D} where
   -- each image that a crash may leave of a store holds tables that the store allows
   pub leaves_tables : (it : FileStore D g) → IsTrue (view it).is_numbered → AreDatabases (recovers it) → (image : Image) → (state it).may_leave image
-      → ∥ ((db : Trees) × recovers it db × HoldsTables image db) ∥₁
+      → ∥ ((db : Trees) × recovers it db × ContainTables image db) ∥₁
   leaves_tables it numbered sound image may = ∥∥₁_elim it.safe squash₁ (λ all.
       let found = all image may in
       let db = reading it found.0 in
       let allowed : recovers it db = (image, found.0, may, ∣ found.1 ∣₁, refl) in
       let schema = sound db allowed in
-      ∥∥₁_elim (size_is_allowed it.pool) squash₁ (λ size. ∥∥₁_map found.2 (λ ours. let r : (x : Trees) × recovers it x × HoldsTables image x = (
+      ∥∥₁_elim (size_is_allowed it.pool) squash₁ (λ size. ∥∥₁_map found.2 (λ ours. let r : (x : Trees) × recovers it x × ContainTables image x = (
         db,
         allowed,
         (
@@ -162,7 +162,7 @@ module _ {D : Type 0} (g : Ghosts D) (never : NeverLies g) where
 
   -- a file was being made, where there was none
   under_way : (files : Files D) (stage : Stage) → IsKnownAt stage remains.Begun → IsNothing (image_of g files) → (image : Image)
-      → IsNothing image ⊎ ∥ ((db : Trees) × HoldsDatabase image db × IsEmpty db) ∥₁ → (s : State) → StandsAt stage (image_of g files) s → ∥ StandsAt (stage_after stage remains.Begun) image s ∥₁
+      → IsNothing image ⊎ ∥ ((db : Trees) × ContainDatabase image db × IsEmpty db) ∥₁ → (s : State) → StandsAt stage (image_of g files) s → ∥ StandsAt (stage_after stage remains.Begun) image s ∥₁
   under_way files stage known nothing image made s (inl held) = absurd (is_something (image_of g files) held.0 (database_of _ held.0 held.1) nothing)
   under_way files stored known nothing image made s (inr none) = absurd none.0
   under_way files unmade known nothing image (inl still) s (inr none) = ∣ inr (inl still, none.1) ∣₁

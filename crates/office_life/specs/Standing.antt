@@ -4,7 +4,7 @@ use Rattle.sqlite_disk.specs.declared.Disk.{Ghosts}
 use Rattle.sqlite_store.specs.declared.store.FileStore.{FileStore}
 use Rattle.sqlite_trees.specs.Tree.{Trees}
 use Rattle.sqlite_wal.specs.Recovery.{Image}
-use Rattle.sqlite.specs.Files.{HoldsDatabase, IsEmpty, IsNothing, over_files}
+use Rattle.sqlite.specs.Files.{ContainDatabase, IsEmpty, IsNothing, over_files}
 use Rattle.sqlite.specs.State.{State as FileState}
 use Rattle.sqlite.specs.declared.file.Leftover.{Leftover}
 use Rattle.sqlite.specs.declared.file.Leftover.TheVariants as left
@@ -16,7 +16,7 @@ use Rattle.office_sql.specs.declared.schema_versions.SchemaVersion.{SchemaVersio
 use Rattle.office_store.specs.RepresentsRows.{RepresentsRowsIn}
 use Rattle.office_desk.specs.Desk.{DeskState}
 use Rattle.office_desk.specs.Leaving.{IsAt}
-use Rattle.office_life.specs.Tables.{AreTablesAt, HoldsTables}
+use Rattle.office_life.specs.Tables.{AreTablesAt, ContainTables}
 use Rattle.office_life.specs.declared.reports.Remains.{Remains}
 use Rattle.office_life.specs.declared.reports.Remains.TheVariants as remains
 
@@ -36,12 +36,12 @@ pub data Stage : Type 0 where
 abbrev pub IsNoneAt : Stage → Image → Type 0
 IsNoneAt stored image = ⊥
 IsNoneAt unmade image = IsNothing image
-IsNoneAt half_made image = IsNothing image ⊎ ((db : Trees) × HoldsDatabase image db × IsEmpty db)
+IsNoneAt half_made image = IsNothing image ⊎ ((db : Trees) × ContainDatabase image db × IsEmpty db)
 
 -- the two files stand for an office at this state: they hold its tables, or there is no file yet and it is the empty one
 abbrev pub StandsAt : Stage → Image → State → Type 0
 StandsAt stage image u =
-    ((db : Trees) × HoldsTables image db × AreTablesAt db u) ⊎ (IsNoneAt stage image × (u ≡ empty_state))
+    ((db : Trees) × ContainTables image db × AreTablesAt db u) ⊎ (IsNoneAt stage image × (u ≡ empty_state))
 
 -- what is known of files that were not opened
 abbrev pub remains_of : {D : Type 0} {g : Ghosts D} → Leftover D g → Remains

@@ -14,8 +14,8 @@ use Rattle.office_sql.specs.declared.schema_versions.SchemaVersion.{SchemaVersio
 use Rattle.office_store.specs.RepresentsRows.{RepresentsRowsIn}
 
 -- the two files hold these tables, and where the file has sums, each page has its sum
-abbrev pub HoldsTables : Image → Trees → Type 0
-HoldsTables image tables = (size : ℕ) × IsPageSize (stored_size size) × HoldsAt size image tables
+abbrev pub ContainTables : Image → Trees → Type 0
+ContainTables image tables = (size : ℕ) × IsPageSize (stored_size size) × HoldsAt size image tables
 
 -- tables of an office, of either version, at this state
 pub record IsOfficeAt (tables : Trees) (u : State) : Type 0 where

@@ -7,7 +7,7 @@ ghost use Rattle.sqlite_wal.specs.Recovery.{Image};
 ghost use Rattle.sqlite.specs.Files.{file_state};
 ghost use Rattle.sqlite.specs.State.{HasCleanDisk};
 ghost use Rattle.office_life.specs.Standing.{NeverLies};
-ghost use Rattle.office_life.specs.Tables.{HoldsTables};
+ghost use Rattle.office_life.specs.Tables.{ContainTables};
 ghost use Rattle.office_life.specs.Told.{IsShut, IsToldClosed};
 
 use crate::reports::Remains;
@@ -44,7 +44,7 @@ pub(crate) fn close<D: Disk + Drop>(conn: Connection<FileStore<D>>) -> (Remains,
     ensures told { NeverLies D.Disk → IsToldClosed D.Disk result.0 result.1 }
     ensures held { NeverLies D.Disk → result.0 ≡ Remains.Held → (image : Image)
         → outcomes D.Disk result.1.log result.1.db image
-        → ∥ ((db : Trees) × (file_state conn).may_leave db × HoldsTables image db) ∥₁ }
+        → ∥ ((db : Trees) × (file_state conn).may_leave db × ContainTables image db) ∥₁ }
 {
     let mut store = conn.into_store();
     let remains = copy(&mut store);

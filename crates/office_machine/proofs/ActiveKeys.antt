@@ -11,7 +11,7 @@ use Rattle.std.proofs.lemmas.Map.Keys.{below_from_sorted}
 use Rattle.std.proofs.lemmas.Option.{get_or_from_slice_get, slice_get-get_or, slice_get_within}
 use Rattle.office_base.proofs.Maps.{entries_of_ordered}
 use Rattle.office_records.specs.Disposal.{is_ended}
-use Rattle.office_records.specs.Lists.{holds_of, numbered}
+use Rattle.office_records.specs.Lists.{is_some_and, numbered}
 use Rattle.office_records.specs.declared.status.Status.{Status}
 use Rattle.office_records.proofs.Places.{numbered_within}
 use Rattle.office_machine.specs.Keys.{bare_contents, bare_rows}
@@ -41,7 +41,7 @@ IsActive status = not (is_ended status) ≡ true
 
 -- each key is the number of a record that is not ended
 abbrev pub AreActive : List Status → List ℕ → Type 0
-AreActive statuses keys = All (λ r. holds_of (numbered statuses r) (λ status. not (is_ended status)) ≡ true) keys
+AreActive statuses keys = All (λ r. is_some_and (numbered statuses r) (λ status. not (is_ended status)) ≡ true) keys
 
 -- the record of the number, if it is not ended, has a key
 abbrev pub IsKeyed : List ℕ → ℕ → Status → Type 0

@@ -6,7 +6,7 @@ use Rattle.std.specs.List.{list_any}
 use Rattle.std.specs.List.Sorted.{IsStrictlySortedBy}
 use Rattle.std.proofs.lemmas.List.{map-append}
 use Rattle.office_base.proofs.Maps.{entries_of_ordered}
-use Rattle.office_records.specs.Lists.{holds_of}
+use Rattle.office_records.specs.Lists.{is_some_and}
 use Rattle.office_records.specs.Tree.{code_cmp}
 use Rattle.office_records.specs.declared.head.Record.{Record}
 use Rattle.office_records.specs.declared.status.Status.{Status}
@@ -20,7 +20,7 @@ use Rattle.office_machine.specs.Collected.{AreCollected}
 
 -- which targets the holds have
 abbrev HaveTargets : HoldMap → List (List ℕ × Target) → Type 0
-HaveTargets holds targets = (code : List ℕ) (target : Target) → list_any (λ e. is_pair e.0 e.1 code target) targets ≡ holds_of (get holds code) (λ hold. has_target hold target)
+HaveTargets holds targets = (code : List ℕ) (target : Target) → list_any (λ e. is_pair e.0 e.1 code target) targets ≡ is_some_and (get holds code) (λ hold. has_target hold target)
 
 -- the rows of holds are their own
 pub own_rows : (holds : HoldMap) (targets : List (List ℕ × Target)) → HaveTargets holds targets → AreRowsOf (hold_rows holds) targets holds
@@ -50,7 +50,7 @@ with_entry heads statuses holds targets es e are = record { long = are.long; tar
 pub nothing_collected : AreCollected [] [] empty [] []
 nothing_collected = record {
   long = refl;
-  targets_exist = λ code target. sym (ap (λ (o : Option HoldState). holds_of o (λ hold. has_target hold target)) (get-empty {X = HoldState} code_cmp code));
+  targets_exist = λ code target. sym (ap (λ (o : Option HoldState). is_some_and o (λ hold. has_target hold target)) (get-empty {X = HoldState} code_cmp code));
   keyed = refl;
 }
 

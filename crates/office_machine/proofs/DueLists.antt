@@ -21,7 +21,7 @@ use Rattle.std.proofs.lemmas.List.Elements.{All-contains_itself, recursion_from_
 use Rattle.std.proofs.lemmas.Map.Lookups.{CmpEqualImpliesEq, exact_signed, exact_unsigned, exact_pairs}
 use Rattle.std.proofs.lemmas.Map.Made.{Contains-values_of, Contains-from_values_of}
 use Rattle.std.proofs.lemmas.Map.Views.{btree_set_contains_iff, tells_apart}
-use Rattle.office_records.specs.Lists.{holds_of, numbered}
+use Rattle.office_records.specs.Lists.{is_some_and, numbered}
 use Rattle.office_records.specs.Tree.{TreeState, due_by, due_of, has_record, is_keep, schedule_of, start_by, start_in, status_of}
 use Rattle.office_records.specs.declared.aggregation.Aggregation.{Aggregation}
 use Rattle.office_records.specs.declared.event.Event.{Event}
@@ -153,13 +153,13 @@ all_there it tree pairs are =
 
 -- ---- the records that are listed
 
-some_due : (o : Option ℤ) (test : ℤ → Bool) → holds_of o test ≡ true → (due : ℤ) × (o ≡ Some due)
+some_due : (o : Option ℤ) (test : ℤ → Bool) → is_some_and o test ≡ true → (due : ℤ) × (o ≡ Some due)
 some_due None test h = absurd cc
 some_due (Some due) test h = (due, refl)
 
 due_of_passing : (it : Selection) (tree : TreeState) (r : ℕ) → is_selected it tree r ≡ true → (due : ℤ) × (due_selected it tree r ≡ Some due)
 due_of_passing it tree r h =
-    let both = and_parts (holds_of (status_of tree r) is_here) (holds_of (due_of tree r) (λ due. selects_due it tree r due)) h in
+    let both = and_parts (is_some_and (status_of tree r) is_here) (is_some_and (due_of tree r) (λ due. selects_due it tree r due)) h in
     let is = some_due (due_of tree r) (λ due. selects_due it tree r due) both.1 in
     (is.0, ap (λ b. cond b (due_of tree r) None) h ∙ is.1)
 
@@ -170,13 +170,13 @@ lists it tree pairs are r = (
   λ h. let is = due_of_passing it tree r h in Contains-values_of pairs is.0 r ((are is.0 r).1 is.1),
 )
 
-both_of : (o : Option ℤ) (test : ℤ → Bool) (b : Bool) → holds_of o (λ due. test due && b) ≡ (holds_of o test && b)
+both_of : (o : Option ℤ) (test : ℤ → Bool) (b : Bool) → is_some_and o (λ due. test due && b) ≡ (is_some_and o test && b)
 both_of None test b = refl
 both_of (Some due) test b = refl
 
 -- those that are overdue are selected
 selects_overdue : (tree : TreeState) (day : ℤ) (n r : ℕ) → is_selected (Overdue day n) tree r ≡ is_overdue tree day n r
-selects_overdue tree day n r = ap (λ b. holds_of (status_of tree r) is_here && b) (both_of (due_of tree r) (λ due. int_lt (deadline_from due n) day) (not (counts tree r)))
+selects_overdue tree day n r = ap (λ b. is_some_and (status_of tree r) is_here && b) (both_of (due_of tree r) (λ due. int_lt (deadline_from due n) day) (not (counts tree r)))
 
 -- ---- in order
 

@@ -9,7 +9,7 @@ use Rattle.std.specs.List.{Contains}
 use Rattle.std.specs.Ordering.{nat_cmp}
 use Rattle.std.proofs.lemmas.List.Elements.{Contains-append_left, Contains-append_right, Contains-push, Contains-push_cases}
 use Rattle.office_records.specs.Disposal.{is_ended}
-use Rattle.office_records.specs.Lists.{numbered, holds_of}
+use Rattle.office_records.specs.Lists.{numbered, is_some_and}
 use Rattle.office_records.specs.declared.status.Status.{Status}
 use Rattle.office_records.specs.declared.status.Status.TheVariants.{Here, Sent, Received, Ended}
 use Rattle.office_records.proofs.Places.{numbered_within}
@@ -128,20 +128,20 @@ ended_only Sent e = absurd cc
 ended_only Received e = absurd cc
 ended_only Ended e = refl
 
-ended_is : (o : Option Status) → holds_of o is_ended ≡ true → o ≡ Some Ended
+ended_is : (o : Option Status) → is_some_and o is_ended ≡ true → o ≡ Some Ended
 ended_is None e = absurd cc
 ended_is (Some status) e = ap Some (ended_only status e)
 
 -- the record is ended and has no run under it
 abbrev pub lacks_ending : List Status → Ends → ℕ → Bool
-lacks_ending statuses m r = holds_of (numbered statuses r) is_ended && is_none (get m r)
+lacks_ending statuses m r = is_some_and (numbered statuses r) is_ended && is_none (get m r)
 
 pub has_ending : (statuses : List Status) (m : Ends) (r : ℕ) → lacks_ending statuses m r ≡ false → numbered statuses r ≡ Some Ended → IsSome (get m r)
-has_ending statuses m r has ended = not-false (is_some (get m r)) (sym (ap (λ o. holds_of o is_ended && is_none (get m r)) ended) ∙ has)
+has_ending statuses m r has ended = not-false (is_some (get m r)) (sym (ap (λ o. is_some_and o is_ended && is_none (get m r)) ended) ∙ has)
 
 pub has_no_ending : (statuses : List Status) (m : Ends) (r : ℕ) → lacks_ending statuses m r ≡ true → (numbered statuses r ≡ Some Ended) × IsNone (get m r)
 has_no_ending statuses m r lacking =
-    let both = and_parts (holds_of (numbered statuses r) is_ended) (is_none (get m r)) lacking in
+    let both = and_parts (is_some_and (numbered statuses r) is_ended) (is_none (get m r)) lacking in
     (ended_is (numbered statuses r) both.0, not-true (is_some (get m r)) both.1)
 
 -- each of so many records that is ended has a run under it

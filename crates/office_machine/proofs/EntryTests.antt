@@ -8,7 +8,7 @@ use Rattle.std.proofs.lemmas.Bool.{and_parts, and_from, leb-true, le-leb}
 use Rattle.std.proofs.lemmas.List.Elements.{All-contains, All-contains_itself, All-weaker}
 use Rattle.office_records.specs.Disposal.{is_ended}
 use Rattle.office_records.specs.Loading.{is_there}
-use Rattle.office_records.specs.Lists.{numbered, holds_of}
+use Rattle.office_records.specs.Lists.{numbered, is_some_and}
 use Rattle.office_records.specs.Tree.{code_cmp}
 use Rattle.office_records.specs.declared.head.Record.{Record}
 use Rattle.office_records.specs.declared.status.Status.{Status}
@@ -36,8 +36,8 @@ pub record AreEntriesSound (s : Office) : Type 0 where
 
 -- ---- what passes each test
 
-is_held_of : {A : Type 0} (o : Option A) (test : A → Bool) (x : A) → o ≡ Some x → test x ≡ true → holds_of o test ≡ true
-is_held_of o test x there passes = ap (λ it. holds_of it test) there ∙ passes
+is_held_of : {A : Type 0} (o : Option A) (test : A → Bool) (x : A) → o ≡ Some x → test x ≡ true → is_some_and o test ≡ true
+is_held_of o test x there passes = ap (λ it. is_some_and it test) there ∙ passes
 
 named_is : {V : Type 0} (things : FinMap code_cmp V) (code : Option (List ℕ)) → is_there things code ≡ true → IfSome code (λ c. IsSome (get things c))
 named_is things None e = tt

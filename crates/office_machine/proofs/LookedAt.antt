@@ -3,7 +3,7 @@ use Rattle.std.proofs.Common.{◌≡◌, ◌↔◌, ◌<◌, ◌≤◌, ◌+◌,
 use Rattle.std.specs.Prelude.{◌≤ℤ◌, IsTrue, int_le, nat_le}
 use Rattle.std.proofs.lemmas.Bool.{le-leb}
 use Rattle.std.proofs.lemmas.Bool.Decides.{nat_tests}
-use Rattle.office_records.specs.Lists.{numbered, numbers_after, holds_of}
+use Rattle.office_records.specs.Lists.{numbered, numbers_after, is_some_and}
 use Rattle.office_records.specs.Disposal.{counts, is_disposal}
 use Rattle.office_records.specs.Candidates.{candidate_by, is_candidate}
 use Rattle.office_records.specs.Tree.{TreeState, action_of, due_of, status_of}
@@ -19,7 +19,7 @@ use Rattle.office_machine.proofs.NextReady.{one_after, ready_after, ready_here, 
 -- ---- a ready record is a candidate
 
 abbrev is_due : TreeState → ℕ → ℤ → Bool
-is_due tree r day = holds_of (due_of tree r) (λ due. int_le due day)
+is_due tree r day = is_some_and (due_of tree r) (λ due. int_le due day)
 
 never_by : (represents : Option Status) (may due counts : Bool) → candidate_by represents (may && counts) ≡ false → ready_by represents (may && due && counts) ≡ false
 never_by (Some status.Here) true true counts not = not
@@ -32,7 +32,7 @@ never_by None may due counts not = refl
 
 never_ready : (s : Office) (day : ℤ) (r : ℕ) → is_candidate s.tree r ≡ false → is_ready s day r ≡ false
 unfolding is_candidate
-never_ready s day r = never_by (status_of s.tree r) (holds_of (action_of s.tree r) is_disposal) (is_due s.tree r day) (counts s.tree r)
+never_ready s day r = never_by (status_of s.tree r) (is_some_and (action_of s.tree r) is_disposal) (is_due s.tree r day) (counts s.tree r)
 
 begins_by : (may due counts : Bool) → (may && counts) ≡ true → (may && due && counts) ≡ due
 begins_by true true counts is = is
@@ -47,10 +47,10 @@ pub here_ready : (s : Office) (day due : ℤ) (r : ℕ) (reached : Bool) → Som
     → Some due ≡ due_of s.tree r → (IsTrue reached ↔ (due ≤ℤ day)) → reached ≡ is_ready s day r
 unfolding is_candidate
 here_ready s day due r reached here is there reported =
-    let may = holds_of (action_of s.tree r) is_disposal in
+    let may = is_some_and (action_of s.tree r) is_disposal in
     let count = counts s.tree r in
     is_due_by reached due day reported
-    ∙ (λ i. holds_of (there i) (λ due. int_le due day))
+    ∙ (λ i. is_some_and (there i) (λ due. int_le due day))
     ∙ sym (begins_by may (is_due s.tree r day) count (ap (λ represents. candidate_by represents (may && count)) here ∙ is))
     ∙ (λ i. ready_by (here i) (may && is_due s.tree r day && count))
 

@@ -6,7 +6,7 @@ use Rattle.std.specs.Option.{is_none}
 use Rattle.office_base.specs.declared.refusal.Refusal.TheVariants.{Exists, NoSuch, Full, NeedsClass, HeldClass, Lifted, Ended, InTransfer}
 use Rattle.office_records.specs.Conditions.{classified_status, conditions_of_reclassify, first_of, is_root, lacks_class, lacks_classified}
 use Rattle.office_records.specs.Disposal.{is_ended, is_in_transfer}
-use Rattle.office_records.specs.Lists.{holds_of}
+use Rattle.office_records.specs.Lists.{is_some_and}
 use Rattle.office_records.specs.declared.classified.Classified.{Classified}
 use Rattle.office_rules.specs.HoldConditions.{conditions_of_hold_on, conditions_of_leaving_class, has_all_targets, holds_target, is_lifted, would_leave_held_class}
 use Rattle.office_records.specs.declared.target.Target.{Target}
@@ -36,7 +36,7 @@ covering_by false false false false false false = refl
 -- a target put on a hold
 pub min_refusal_of_covering : (s : Office) (code : List ℕ) (target : Target) → min_refusal (first_of (conditions_of_hold_on s.holds code target)) (first_of (conditions_of_target s.tree target)) ≡ first_of (conditions_of_covering s code target)
 min_refusal_of_covering s code target =
-    covering_by (holds_of (target_status s.tree target) is_ended) (lacks_target s.tree target)
+    covering_by (is_some_and (target_status s.tree target) is_ended) (lacks_target s.tree target)
     (holds_target s.holds code target) (is_none (get s.holds code)) (has_all_targets s.holds code) (is_lifted s.holds code)
 
 reclassifying_by : (leaves lacks needs ended moving : Bool)
@@ -57,4 +57,4 @@ reclassifying_by false false false false false = refl
 pub min_refusal_of_reclassifying : (s : Office) (what : Classified) (class : Option (List ℕ)) → min_refusal (first_of (conditions_of_reclassify s.tree what class)) (first_of (conditions_of_leaving_class s.holds s.tree what class)) ≡ first_of (conditions_of_reclassifying s what class)
 min_refusal_of_reclassifying s what class =
     reclassifying_by (would_leave_held_class s.holds s.tree what class) (lacks_classified s.tree what || lacks_class s.tree class) (is_root s.tree what && is_none class)
-    (holds_of (classified_status s.tree what) is_ended) (holds_of (classified_status s.tree what) is_in_transfer)
+    (is_some_and (classified_status s.tree what) is_ended) (is_some_and (classified_status s.tree what) is_in_transfer)

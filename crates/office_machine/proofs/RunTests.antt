@@ -12,7 +12,7 @@ use Rattle.std.specs.Option.{is_some}
 use Rattle.std.specs.Ordering.{is_eq, nat_cmp}
 use Rattle.std.specs.Prelude.{IsSome}
 use Rattle.office_records.specs.Disposal.{is_ended}
-use Rattle.office_records.specs.Lists.{holds_of, numbered}
+use Rattle.office_records.specs.Lists.{is_some_and, numbered}
 use Rattle.office_records.specs.declared.status.Status.{Status}
 use Rattle.office_records.specs.declared.status.Status.TheVariants.{Here, Sent, Received, Ended}
 use Rattle.office_records.proofs.Bridge.{from_numbers}
@@ -114,22 +114,22 @@ too_great es q n small great = elim (true_or_false (contains_key (from_entries {
 
 -- ---- the numbers of the things that pass a test
 
-pub passing : {A : Type 0} (test : A → Bool) (o : Option A) → holds_of o test ≡ true → (x : A) × (o ≡ Some x) × (test x ≡ true)
+pub passing : {A : Type 0} (test : A → Bool) (o : Option A) → is_some_and o test ≡ true → (x : A) × (o ≡ Some x) × (test x ≡ true)
 passing test None e = absurd cc
 passing test (Some x) e = (x, refl, e)
 
 -- the keys are the numbers of the things that pass, where each key is one and each of them a key
-pub keys_pass : {A V : Type 0} (xs : List A) (test : A → Bool) (es : List (ℕ × V)) → All (λ n. holds_of (numbered xs n) test ≡ true) (keys_of es)
+pub keys_pass : {A V : Type 0} (xs : List A) (test : A → Bool) (es : List (ℕ × V)) → All (λ n. is_some_and (numbered xs n) test ≡ true) (keys_of es)
     → ((n : ℕ) (x : A) → numbered xs n ≡ Some x → test x ≡ true → contains_key (from_entries {R = nat_cmp} es) n ≡ true)
     → (n : ℕ) → IsSome (get (from_entries {R = nat_cmp} es) n) ↔ ((x : A) × (numbered xs n ≡ Some x) × (test x ≡ true))
 keys_pass xs test es pass keyed n = (
-  λ there. passing test (numbered xs n) (at_keys (λ n. holds_of (numbered xs n) test ≡ true) es pass n there),
+  λ there. passing test (numbered xs n) (at_keys (λ n. is_some_and (numbered xs n) test ≡ true) es pass n there),
   λ w. keyed n w.0 w.1 w.2,
 )
 
 -- and only there
-pub keys_passed : {A V : Type 0} (xs : List A) (test : A → Bool) (es : List (ℕ × V)) → ((n : ℕ) → IsSome (get (from_entries {R = nat_cmp} es) n) → (x : A) × (numbered xs n ≡ Some x) × (test x ≡ true)) → All (λ n. holds_of (numbered xs n) test ≡ true) (keys_of es)
-keys_passed xs test es h = from_keys (λ n. holds_of (numbered xs n) test ≡ true) es (λ n there. let w = h n there in ap (λ o. holds_of o test) w.1 ∙ w.2)
+pub keys_passed : {A V : Type 0} (xs : List A) (test : A → Bool) (es : List (ℕ × V)) → ((n : ℕ) → IsSome (get (from_entries {R = nat_cmp} es) n) → (x : A) × (numbered xs n ≡ Some x) × (test x ≡ true)) → All (λ n. is_some_and (numbered xs n) test ≡ true) (keys_of es)
+keys_passed xs test es h = from_keys (λ n. is_some_and (numbered xs n) test ≡ true) es (λ n there. let w = h n there in ap (λ o. is_some_and o test) w.1 ∙ w.2)
 
 -- ---- records that are not ended
 

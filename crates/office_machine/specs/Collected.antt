@@ -2,7 +2,7 @@
 use Rattle.std.specs.Prelude.{◌≡◌, ◌∷◌, [], ℕ, ℤ, List, Option, Some, None, length, map}
 use Rattle.std.specs.FinMap.{get}
 use Rattle.std.specs.List.{list_any}
-use Rattle.office_records.specs.Lists.{holds_of}
+use Rattle.office_records.specs.Lists.{is_some_and}
 use Rattle.office_records.specs.declared.head.Record.{Record}
 use Rattle.office_records.specs.declared.status.Status.{Status}
 use Rattle.office_rules.specs.HoldLoading.{is_pair}
@@ -21,5 +21,5 @@ pub record AreCollected (heads : List Record) (statuses : List Status) (holds : 
     (targets : List (List ℕ × Target)) (entries : List ((ℕ × ℕ) × Entry)) : Type 0 where
   pub long : length statuses ≡ length heads
   pub targets_exist : (code : List ℕ) (target : Target)
-      → list_any (λ e. is_pair e.0 e.1 code target) targets ≡ holds_of (get holds code) (λ hold. has_target hold target)
+      → list_any (λ e. is_pair e.0 e.1 code target) targets ≡ is_some_and (get holds code) (λ hold. has_target hold target)
   pub keyed : entry_rows (map (λ e. e.1) entries) ≡ entries

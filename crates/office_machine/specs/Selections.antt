@@ -3,7 +3,7 @@ use Rattle.std.specs.Prelude.{◌≡◌, ◌↔◌, ℕ, ℤ, Bool, not, ◌&&�
 use Rattle.std.specs.List.{Contains}
 use Rattle.office_days.specs.Due.{deadline_from}
 use Rattle.office_records.specs.Disposal.{counts, is_here}
-use Rattle.office_records.specs.Lists.{holds_of}
+use Rattle.office_records.specs.Lists.{is_some_and}
 use Rattle.office_records.specs.Tree.{TreeState, due_of, status_of}
 use Rattle.office_rules.specs.Readings.{IsDueList, IsOverdueList}
 use Rattle.office_rules.specs.Registers.{AreDueRows, AreOverdueRows, DueRowView}
@@ -18,7 +18,7 @@ selects_due (Overdue day n) tree r due = int_lt (deadline_from due n) day && not
 
 abbrev pub is_selected : Selection → TreeState → ℕ → Bool
 is_selected it tree r =
-    holds_of (status_of tree r) is_here && holds_of (due_of tree r) (λ due. selects_due it tree r due)
+    is_some_and (status_of tree r) is_here && is_some_and (due_of tree r) (λ due. selects_due it tree r due)
 
 -- the due day of a record that it has
 abbrev pub due_selected : Selection → TreeState → ℕ → Option ℤ

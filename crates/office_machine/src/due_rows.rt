@@ -3,7 +3,7 @@ ghost use Rattle.std.specs.Prelude.{◌≡◌, ◌∷◌, ◌&&◌, [], IfOk, If
 ghost use Rattle.std.specs.Option.{option_copied};
 ghost use Rattle.std.specs.Ordering.{int_eq};
 ghost use Rattle.office_records.specs.Disposal.{same_action};
-ghost use Rattle.office_records.specs.Lists.{holds_of};
+ghost use Rattle.office_records.specs.Lists.{is_some_and};
 ghost use Rattle.office_records.specs.Tree.{due_of, has_record};
 ghost use Rattle.office_rules.specs.Registers.{due_row, due_reported};
 ghost use Rattle.office_machine.specs.Selections.{AreSelectedRows};
@@ -43,7 +43,7 @@ impl<'a> Model for DueRows<'a> {
 /// Whether the confirmation is of that action and that due day.
 fn counts(confirmation: Option<&Confirmation>, action: Action, due: DueDay) -> bool
     ensures { result
-        ≡ holds_of (option_copied confirmation.entry)
+        ≡ is_some_and (option_copied confirmation.entry)
         (λ it. same_action it.action action && int_eq it.due due) }
 {
     match confirmation {

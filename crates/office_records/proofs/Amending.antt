@@ -5,7 +5,7 @@ use Rattle.std.specs.Option.{is_none, option_map}
 use Rattle.std.specs.FinMap.{get, contains_key}
 use Rattle.office_records.specs.Conditions.{first_of, conditions_of_set_class_schedule, conditions_of_set_record_schedule, conditions_of_reclassify, conditions_of_confirm, conditions_of_review, conditions_of_receipt, lacks_class, lacks_classified, lacks_schedule, is_root}
 use Rattle.office_records.specs.Effects.{with_class_schedule, with_head, with_record_schedule, reclassified, confirmed, reviewed, receipted}
-use Rattle.office_records.specs.Lists.{numbered, edited, amended, holds_of, or_else}
+use Rattle.office_records.specs.Lists.{numbered, edited, amended, is_some_and, or_else}
 use Rattle.office_records.specs.Sound.{IsSound, FitsLimits, RootsHaveClasses, NoneIsOpenUnderClosed, NamesExist, Names}
 use Rattle.office_records.specs.Tree.{TreeState, due_of, has_record}
 use Rattle.office_records.specs.declared.action.Action.{Action}
@@ -197,7 +197,7 @@ roots_classed tree a class roots some b it e root =
       | inr changed ↦
           let here : numbered tree.aggregations a ≡ Some came.0 = ap (numbered tree.aggregations) (sym changed.0) ∙ came.1 in
           let parent : came.0.parent ≡ None = ap (λ (k : Aggregation). k.parent) (sym changed.1) ∙ root in
-          let needs = root_needs came.0.parent class (is_root tree (classified.Aggregation a)) (ap (λ (o : Option Aggregation). holds_of o (λ it. is_none it.parent)) here) some parent in
+          let needs = root_needs came.0.parent class (is_root tree (classified.Aggregation a)) (ap (λ (o : Option Aggregation). is_some_and o (λ it. is_none it.parent)) here) some parent in
           subst (λ (k : Aggregation). IsSome k.class) (sym changed.1) needs
     ]
 

@@ -7,7 +7,7 @@ use Rattle.std.specs.FinMap.{FinMap, get, insert, contains_key, len, empty, len-
 use Rattle.std.proofs.lemmas.Bool.Decides.{nat_tests}
 use Rattle.office_records.specs.Conditions.{first_of, conditions_of_add_schedule, conditions_of_add_class, conditions_of_add_aggregation, conditions_of_close_aggregation, conditions_of_add_record, lacks_class, lacks_schedule, lacks_parent, is_closed, is_child_of}
 use Rattle.office_records.specs.Effects.{added_schedule, added_class, added_aggregation, closed_aggregation, added_record}
-use Rattle.office_records.specs.Lists.{numbered, edited, holds_of}
+use Rattle.office_records.specs.Lists.{numbered, edited, is_some_and}
 use Rattle.office_records.specs.Sound.{IsSound, FitsLimits, IsForest, RootsHaveClasses, NamesExist, NoneIsOpenUnderClosed, Names}
 use Rattle.office_records.specs.Tree.{TreeState, code_cmp, empty_tree, has_aggregation, chain_of, chain}
 use Rattle.office_records.specs.declared.aggregation.Aggregation.{Aggregation}
@@ -24,7 +24,7 @@ use Rattle.office_records.proofs.Walk.{chain-edited, chain_pushed, placed_in}
 -- ---- names and places
 
 -- a code that does not lack its thing names it
-pub names_of : {V : Type 0} (m : FinMap code_cmp V) (o : Option (List ℕ)) → holds_of o (λ code. not (contains_key m code)) ≡ false → Names m o
+pub names_of : {V : Type 0} (m : FinMap code_cmp V) (o : Option (List ℕ)) → is_some_and o (λ code. not (contains_key m code)) ≡ false → Names m o
 names_of m None e = tt
 names_of m (Some code) e = not_false (contains_key m code) e
 
@@ -103,16 +103,16 @@ root_has_class : (parent : Option ℕ) (class : Option (List ℕ)) → (is_none 
 root_has_class None class some e = not_false (is_some class) some
 root_has_class (Some p) class some e = absurd cc
 
-shallow : (xs : List Aggregation) (parent : Option ℕ) → holds_of parent (λ a. nat_le 8 (length (chain_of xs a))) ≡ false → IfSome parent (λ a. length (chain_of xs a) < 8)
+shallow : (xs : List Aggregation) (parent : Option ℕ) → is_some_and parent (λ a. nat_le 8 (length (chain_of xs a))) ≡ false → IfSome parent (λ a. length (chain_of xs a) < 8)
 shallow xs None e = tt
 shallow xs (Some p) e = below (length (chain_of xs p)) 8 e
 
-parent_open : (xs : List Aggregation) (o : Option ℕ) (p : ℕ) (parent : Aggregation) → o ≡ Some p → numbered xs p ≡ Some parent → holds_of o (is_closed xs) ≡ false → IsNone parent.closed
+parent_open : (xs : List Aggregation) (o : Option ℕ) (p : ℕ) (parent : Aggregation) → o ≡ Some p → numbered xs p ≡ Some parent → is_some_and o (is_closed xs) ≡ false → IsNone parent.closed
 parent_open xs None p parent e there is_open = absurd cc
 parent_open xs (Some q) p parent e there is_open =
     let same : q ≡ p = cc in
     let number : numbered xs q ≡ Some parent = ap (numbered xs) same ∙ there in
-    sym (ap (λ o. holds_of o (λ (it : Aggregation). is_some it.closed)) number) ∙ is_open
+    sym (ap (λ o. is_some_and o (λ (it : Aggregation). is_some it.closed)) number) ∙ is_open
 
 -- what was there before a push
 was_there : {A : Type 0} (xs : List A) (x y : A) (n : ℕ) → n ≤ length xs → numbered (xs ++ x ∷ []) n ≡ Some y → numbered xs n ≡ Some y
@@ -144,7 +144,7 @@ roots_push xs x roots own a it e root = elim (numbered_push xs x it a e) [
   | inr new ↦ subst (λ (k : Aggregation). IsSome k.class) new.1 (own (ap (λ (k : Aggregation). k.parent) new.1 ∙ root))
 ]
 
-closed_push : (xs : List Aggregation) (x : Aggregation) → IsForest xs → NoneIsOpenUnderClosed xs → FitsIn xs x.parent → holds_of x.parent (is_closed xs) ≡ false → NoneIsOpenUnderClosed (xs ++ x ∷ [])
+closed_push : (xs : List Aggregation) (x : Aggregation) → IsForest xs → NoneIsOpenUnderClosed xs → FitsIn xs x.parent → is_some_and x.parent (is_closed xs) ≡ false → NoneIsOpenUnderClosed (xs ++ x ∷ [])
 closed_push xs x forest closed fits parents a p it parent e up above is_open = elim (numbered_push xs x it a e) [
   | inl old ↦
       let low = (forest.below a p it old up).1 in

@@ -4,7 +4,7 @@ use Rattle.std.specs.Prelude.{slice_get, IsSome, nat_le, nat_lt, ◌&&◌, ◌||
 use Rattle.std.specs.Option.{is_some, is_none, option_and_then, MatchOption}
 use Rattle.std.proofs.lemmas.Bool.Decides.{nat_tests}
 use Rattle.office_records.specs.Loading.{is_placed}
-use Rattle.office_records.specs.Lists.{numbered, holds_of}
+use Rattle.office_records.specs.Lists.{numbered, is_some_and}
 use Rattle.office_records.specs.Sound.{NoneIsOpenUnderClosed, RootsHaveClasses}
 use Rattle.office_records.specs.Tree.{chain, chain_of}
 use Rattle.office_records.specs.declared.aggregation.Aggregation.{Aggregation}
@@ -43,9 +43,9 @@ all_3 true false c p q r = absurd cc
 all_3 false b c p q r = absurd cc
 
 parts : (aggregations : List Aggregation) → AllPass aggregations → (a p : ℕ) (it : Aggregation) → numbered aggregations a ≡ Some it → it.parent ≡ Some p
-    → (nat_le 1 p ≡ true) × (nat_lt p a ≡ true) × ((is_some it.closed || holds_of (numbered aggregations p) (λ parent. is_none parent.closed)) ≡ true)
+    → (nat_le 1 p ≡ true) × (nat_lt p a ≡ true) × ((is_some it.closed || is_some_and (numbered aggregations p) (λ parent. is_none parent.closed)) ≡ true)
 parts aggregations pass a p it e up =
-    and_3 (nat_le 1 p) (nat_lt p a) (is_some it.closed || holds_of (numbered aggregations p) (λ parent. is_none parent.closed)) (ap (is_placed aggregations a it) (sym up) ∙ pass a it e)
+    and_3 (nat_le 1 p) (nat_lt p a) (is_some it.closed || is_some_and (numbered aggregations p) (λ parent. is_none parent.closed)) (ap (is_placed aggregations a it) (sym up) ∙ pass a it e)
 
 above_zero : (p : ℕ) → nat_le 1 p ≡ true → 0 < p
 above_zero p e = grind (arith, nat_tests)
@@ -70,9 +70,9 @@ some_none : (o : Option ℤ) → is_some o ≡ false → is_none o ≡ true
 some_none None e = refl
 some_none (Some x) e = absurd cc
 
-open_under : (closed : Bool) (o : Option Aggregation) (parent : Aggregation) → (closed || holds_of o (λ parent. is_none parent.closed)) ≡ true → closed ≡ false → o ≡ Some parent → is_some parent.closed ≡ false
+open_under : (closed : Bool) (o : Option Aggregation) (parent : Aggregation) → (closed || is_some_and o (λ parent. is_none parent.closed)) ≡ true → closed ≡ false → o ≡ Some parent → is_some parent.closed ≡ false
 open_under true o parent e is there = absurd cc
-open_under false o parent e is there = none_some parent.closed (ap (λ o. holds_of o (λ parent. is_none parent.closed)) (sym there) ∙ e)
+open_under false o parent e is there = none_some parent.closed (ap (λ o. is_some_and o (λ parent. is_none parent.closed)) (sym there) ∙ e)
 
 pub closed_of : (aggregations : List Aggregation) → AllPass aggregations → NoneIsOpenUnderClosed aggregations
 closed_of aggregations pass a p it parent e up there free =
@@ -89,9 +89,9 @@ one_passes aggregations below closed a it (Some p) up e =
     let within = numbered_within aggregations a it e in
     let there = numbered_there aggregations (p - 1) (omega (arith, low.0, low.1, within.1)) in
     let at = numbered_at aggregations p (p - 1) (omega (arith, low.0)) ∙ there.1 in
-    all_3 (nat_le 1 p) (nat_lt p a) (is_some it.closed || holds_of (numbered aggregations p) (λ parent. is_none parent.closed)) (to_above_zero p low.0) (to_less p a low.1)
-    (covered (is_some it.closed) (holds_of (numbered aggregations p) (λ parent. is_none parent.closed))
-    (λ free. ap (λ o. holds_of o (λ (parent : Aggregation). is_none parent.closed)) at ∙ some_none there.0.closed (closed a p it there.0 e up at free)))
+    all_3 (nat_le 1 p) (nat_lt p a) (is_some it.closed || is_some_and (numbered aggregations p) (λ parent. is_none parent.closed)) (to_above_zero p low.0) (to_less p a low.1)
+    (covered (is_some it.closed) (is_some_and (numbered aggregations p) (λ parent. is_none parent.closed))
+    (λ free. ap (λ o. is_some_and o (λ (parent : Aggregation). is_none parent.closed)) at ∙ some_none there.0.closed (closed a p it there.0 e up at free)))
 
 pub all_pass : (aggregations : List Aggregation) → AreBelow aggregations → NoneIsOpenUnderClosed aggregations → AllPass aggregations
 all_pass aggregations below closed a it e = one_passes aggregations below closed a it it.parent refl e

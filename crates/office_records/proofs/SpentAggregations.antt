@@ -5,7 +5,7 @@ use Rattle.std.proofs.lemmas.Bool.Decides.{nat_tests}
 use Rattle.std.specs.List.{list_all}
 use Rattle.std.specs.Option.{is_some}
 use Rattle.office_records.specs.Disposal.{is_below, records_below, is_spent, is_ended}
-use Rattle.office_records.specs.Lists.{numbered, numbers_after, holds_of}
+use Rattle.office_records.specs.Lists.{numbered, numbers_after, is_some_and}
 use Rattle.office_records.specs.Meanings.{Contains, IsSpent}
 use Rattle.office_records.specs.Sound.{IsSound}
 use Rattle.office_records.specs.Tree.{TreeState, has_record, status_of}
@@ -90,18 +90,18 @@ there_record tree r h = let parts = and_parts (nat_le 1 r) (nat_le r (length tre
     high : (r n : ℕ) → nat_le r n ≡ true → r ≤ 0 + n
     high r n h = grind (arith, nat_tests)
 
-closed_is : (o : Option Aggregation) → holds_of o (λ it. is_some it.closed) ≡ true → (it : Aggregation) × (o ≡ Some it) × IsSome it.closed
+closed_is : (o : Option Aggregation) → is_some_and o (λ it. is_some it.closed) ≡ true → (it : Aggregation) × (o ≡ Some it) × IsSome it.closed
 closed_is None h = absurd cc
 closed_is (Some it) h = (it, refl, h)
 
-is_closed : (o : Option Aggregation) → (it : Aggregation) × (o ≡ Some it) × IsSome it.closed → holds_of o (λ it. is_some it.closed) ≡ true
-is_closed o one = ap (λ p. holds_of p (λ (it : Aggregation). is_some it.closed)) one.1 ∙ one.2
+is_closed : (o : Option Aggregation) → (it : Aggregation) × (o ≡ Some it) × IsSome it.closed → is_some_and o (λ it. is_some it.closed) ≡ true
+is_closed o one = ap (λ p. is_some_and p (λ (it : Aggregation). is_some it.closed)) one.1 ∙ one.2
 
 -- whether the aggregation is closed
 abbrev closed_at : TreeState → ℕ → Bool
-closed_at tree a = holds_of (numbered tree.aggregations a) (λ (it : Aggregation). is_some it.closed)
+closed_at tree a = is_some_and (numbered tree.aggregations a) (λ (it : Aggregation). is_some it.closed)
 
-ended_is : (o : Option Status) → holds_of o is_ended ≡ true → o ≡ Some status.Ended
+ended_is : (o : Option Status) → is_some_and o is_ended ≡ true → o ≡ Some status.Ended
 ended_is None h = absurd cc
 ended_is (Some status.Here) h = absurd cc
 ended_is (Some status.Sent) h = absurd cc
@@ -110,7 +110,7 @@ ended_is (Some status.Ended) h = refl
 
 -- whether the record is ended
 abbrev pub ended : TreeState → ℕ → Bool
-ended tree r = holds_of (status_of tree r) is_ended
+ended tree r = is_some_and (status_of tree r) is_ended
 
 some_below_is : (tree : TreeState) (a : ℕ) → IsSound tree → 0 < length (records_below tree a) → (r : ℕ) × IsTrue (has_record tree r) × Contains tree a r
 some_below_is tree a sound h =
@@ -147,7 +147,7 @@ unfolding is_spent
 is_spent_where tree a sound h =
     let closed = is_closed (numbered tree.aggregations a) h.closed in
     let some_below = holds_lt 0 (length (records_below tree a)) (is_some_below tree a sound h.some_below) in
-    and_from (closed_at tree a && nat_lt 0 (length (records_below tree a))) (list_all (ended tree) (records_below tree a)) (and_from (closed_at tree a) (nat_lt 0 (length (records_below tree a))) closed some_below) (is_all_ended tree a sound (λ r has below. ap (λ o. holds_of o is_ended) (h.all_ended r has below)))
+    and_from (closed_at tree a && nat_lt 0 (length (records_below tree a))) (list_all (ended tree) (records_below tree a)) (and_from (closed_at tree a) (nat_lt 0 (length (records_below tree a))) closed some_below) (is_all_ended tree a sound (λ r has below. ap (λ o. is_some_and o is_ended) (h.all_ended r has below)))
 
 pub spent_where : (tree : TreeState) (a : ℕ) → IsSound tree → (IsTrue (is_spent tree a) ↔ IsSpent tree a)
 spent_where tree a sound = (spent_is tree a sound, is_spent_where tree a sound)

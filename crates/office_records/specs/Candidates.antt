@@ -1,7 +1,7 @@
 -- Which records a disposal run takes once they are due. Source: own.
 use Rattle.std.specs.Prelude.{◌≡◌, ◌<◌, ℕ, Bool, true, false, ◌&&◌, Option, Some, None}
 use Rattle.office_records.specs.Disposal.{counts, is_disposal}
-use Rattle.office_records.specs.Lists.{holds_of}
+use Rattle.office_records.specs.Lists.{is_some_and}
 use Rattle.office_records.specs.Tree.{TreeState, action_of, status_of}
 use Rattle.office_records.specs.declared.status.Status.{Status}
 use Rattle.office_records.specs.declared.status.Status.TheVariants.{Here, Sent, Received, Ended}
@@ -16,7 +16,7 @@ candidate_by None may = false
 -- a record that a run takes once it is due: it is here, its action is to transfer or to destroy and its confirmation
 -- counts; or it is received
 unfoldable pub is_candidate : TreeState → ℕ → Bool
-is_candidate tree r = candidate_by (status_of tree r) (holds_of (action_of tree r) is_disposal && counts tree r)
+is_candidate tree r = candidate_by (status_of tree r) (is_some_and (action_of tree r) is_disposal && counts tree r)
 
 -- the least candidate above a number
 pub record IsNextCandidate (tree : TreeState) (above r : ℕ) : Type 0 where

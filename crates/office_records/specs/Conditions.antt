@@ -8,7 +8,7 @@ use Rattle.std.specs.FinMap.{contains_key, len}
 use Rattle.office_base.specs.declared.refusal.Refusal.{Refusal}
 use Rattle.office_base.specs.declared.refusal.Refusal.TheVariants.{Exists, NoSuch, Full, Closed, ChildOpen, TooDeep, NeedsClass, Ended, InTransfer, NotDue, WrongAction, NotSent, WrongDigest, NotYet}
 use Rattle.office_base.specs.Refusals.{refusal_number}
-use Rattle.office_records.specs.Lists.{numbered, holds_of}
+use Rattle.office_records.specs.Lists.{numbered, is_some_and}
 use Rattle.office_records.specs.Disposal.{same_action, is_ended, is_sent, is_in_transfer}
 use Rattle.office_records.specs.Tree.{TreeState, has_aggregation, has_record, chain_of, action_of, due_of, status_of}
 use Rattle.office_records.specs.declared.action.Action.{Action}
@@ -37,23 +37,23 @@ IsRising (c ∷ cs) = AllByRecursion (λ d. refusal_number c.0 < refusal_number 
 
 -- a code that is given names no class
 abbrev pub lacks_class : TreeState → Option (List ℕ) → Bool
-lacks_class tree class = holds_of class (λ code. not (contains_key tree.classes code))
+lacks_class tree class = is_some_and class (λ code. not (contains_key tree.classes code))
 
 -- a code that is given names no schedule
 abbrev pub lacks_schedule : TreeState → Option (List ℕ) → Bool
-lacks_schedule tree schedule = holds_of schedule (λ code. not (contains_key tree.schedules code))
+lacks_schedule tree schedule = is_some_and schedule (λ code. not (contains_key tree.schedules code))
 
 -- a number that is given names no aggregation
 abbrev pub lacks_parent : TreeState → Option ℕ → Bool
-lacks_parent tree parent = holds_of parent (λ a. not (has_aggregation tree a))
+lacks_parent tree parent = is_some_and parent (λ a. not (has_aggregation tree a))
 
 -- the aggregation is there and closed
 abbrev pub is_closed : List Aggregation → ℕ → Bool
-is_closed aggregations a = holds_of (numbered aggregations a) (λ it. is_some it.closed)
+is_closed aggregations a = is_some_and (numbered aggregations a) (λ it. is_some it.closed)
 
 -- the aggregation has that parent
 abbrev pub is_child_of : ℕ → Aggregation → Bool
-is_child_of a it = holds_of it.parent (λ p. p == a)
+is_child_of a it = is_some_and it.parent (λ p. p == a)
 
 -- the code is there; there are 1,000
 abbrev pub conditions_of_add_schedule : TreeState → List ℕ → List (Refusal × Bool)
@@ -77,8 +77,8 @@ conditions_of_add_aggregation tree ref_text parent class =
     (Exists, list_any (λ it. bytes_eq it.ref_text ref_text) tree.aggregations)
     ∷ (NoSuch, lacks_parent tree parent || lacks_class tree class)
     ∷ (Full, nat_le 50_000 (length tree.aggregations))
-    ∷ (Closed, holds_of parent (is_closed tree.aggregations))
-    ∷ (TooDeep, holds_of parent (λ a. nat_le 8 (length (chain_of tree.aggregations a))))
+    ∷ (Closed, is_some_and parent (is_closed tree.aggregations))
+    ∷ (TooDeep, is_some_and parent (λ a. nat_le 8 (length (chain_of tree.aggregations a))))
     ∷ (NeedsClass, is_none parent && is_none class)
     ∷ []
 
@@ -107,11 +107,11 @@ conditions_of_set_class_schedule tree class schedule =
 
 -- the record is there and ended
 abbrev pub has_ended : TreeState → ℕ → Bool
-has_ended tree r = holds_of (status_of tree r) is_ended
+has_ended tree r = is_some_and (status_of tree r) is_ended
 
 -- the record is there and sent or received
 abbrev pub is_under_way : TreeState → ℕ → Bool
-is_under_way tree r = holds_of (status_of tree r) is_in_transfer
+is_under_way tree r = is_some_and (status_of tree r) is_in_transfer
 
 -- no such record or schedule; the record is ended; it is sent or received
 abbrev pub conditions_of_set_record_schedule : TreeState → ℕ → Option (List ℕ) → List (Refusal × Bool)
@@ -128,7 +128,7 @@ lacks_classified tree (classified.Record r) = not (has_record tree r)
 
 -- it is an aggregation without parent
 abbrev pub is_root : TreeState → Classified → Bool
-is_root tree (classified.Aggregation a) = holds_of (numbered tree.aggregations a) (λ it. is_none it.parent)
+is_root tree (classified.Aggregation a) = is_some_and (numbered tree.aggregations a) (λ it. is_none it.parent)
 is_root tree (classified.Record r) = false
 
 -- the status of a record; an aggregation has none
@@ -141,17 +141,17 @@ abbrev pub conditions_of_reclassify : TreeState → Classified → Option (List 
 conditions_of_reclassify tree what class =
     (NoSuch, lacks_classified tree what || lacks_class tree class)
     ∷ (NeedsClass, is_root tree what && is_none class)
-    ∷ (Ended, holds_of (classified_status tree what) is_ended)
-    ∷ (InTransfer, holds_of (classified_status tree what) is_in_transfer)
+    ∷ (Ended, is_some_and (classified_status tree what) is_ended)
+    ∷ (InTransfer, is_some_and (classified_status tree what) is_in_transfer)
     ∷ []
 
 -- the record has no due day, or one after the day
 abbrev pub is_not_due : TreeState → ℕ → ℤ → Bool
-is_not_due tree r day = has_record tree r && not (holds_of (due_of tree r) (λ due. int_le due day))
+is_not_due tree r day = has_record tree r && not (is_some_and (due_of tree r) (λ due. int_le due day))
 
 -- the record's plan has another action
 abbrev pub has_other_action : TreeState → ℕ → Action → Bool
-has_other_action tree r named = has_record tree r && not (holds_of (action_of tree r) (same_action named))
+has_other_action tree r named = has_record tree r && not (is_some_and (action_of tree r) (same_action named))
 
 -- no such record; it is ended; it is sent or received; it is not due; the named action is not the plan's, or it is to
 -- review
@@ -180,8 +180,8 @@ abbrev pub conditions_of_receipt : TreeState → ℕ → List ℕ → List (Refu
 conditions_of_receipt tree r digest =
     (NoSuch, not (has_record tree r))
     ∷ (Ended, has_ended tree r)
-    ∷ (NotSent, holds_of (status_of tree r) (λ status. not (is_sent status)))
-    ∷ (WrongDigest, holds_of (numbered tree.records r) (λ head. not (bytes_eq head.digest digest)))
+    ∷ (NotSent, is_some_and (status_of tree r) (λ status. not (is_sent status)))
+    ∷ (WrongDigest, is_some_and (numbered tree.records r) (λ head. not (bytes_eq head.digest digest)))
     ∷ []
 
 -- no such record; it is ended; it is sent or received; the event occurred after the day

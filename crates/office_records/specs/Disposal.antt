@@ -4,7 +4,7 @@ use Rattle.std.specs.Prelude.{ℕ, ◌==◌, nat_lt, Bool, true, false, ◌&&◌
 use Rattle.std.specs.List.{list_any, list_all}
 use Rattle.std.specs.Option.{option_and_then, is_some}
 use Rattle.std.specs.Ordering.{int_eq}
-use Rattle.office_records.specs.Lists.{numbered, numbers_after, holds_of}
+use Rattle.office_records.specs.Lists.{numbered, numbers_after, is_some_and}
 use Rattle.office_records.specs.Tree.{TreeState, above, action_of, due_of, status_of}
 use Rattle.office_records.specs.declared.action.Action.{Action}
 use Rattle.office_records.specs.declared.action.Action.TheVariants as action
@@ -64,8 +64,8 @@ confirmation_of tree r = option_and_then (λ head. head.confirmation) (numbered 
 -- a confirmation counts only while its action and due day are still the record's
 abbrev pub counts : TreeState → ℕ → Bool
 counts tree r =
-    holds_of (confirmation_of tree r) (λ confirmation.
-    holds_of (action_of tree r) (same_action confirmation.action) && holds_of (due_of tree r) (int_eq confirmation.due))
+    is_some_and (confirmation_of tree r) (λ confirmation.
+    is_some_and (action_of tree r) (same_action confirmation.action) && is_some_and (due_of tree r) (int_eq confirmation.due))
 
 -- the aggregation contains the record, at any height
 abbrev pub is_below : TreeState → ℕ → ℕ → Bool
@@ -78,6 +78,6 @@ records_below tree a = filter (is_below tree a) (numbers_after 0 (length tree.re
 -- an aggregation is spent where it is closed, a record lies below it, and all records below it are ended
 unfoldable pub is_spent : TreeState → ℕ → Bool
 is_spent tree a =
-    holds_of (numbered tree.aggregations a) (λ it. is_some it.closed)
+    is_some_and (numbered tree.aggregations a) (λ it. is_some it.closed)
     && nat_lt 0 (length (records_below tree a))
-    && list_all (λ r. holds_of (status_of tree r) is_ended) (records_below tree a)
+    && list_all (λ r. is_some_and (status_of tree r) is_ended) (records_below tree a)

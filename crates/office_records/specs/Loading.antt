@@ -2,7 +2,7 @@
 use Rattle.std.specs.Prelude.{ℕ, Bool, true, ◌&&◌, ◌||◌, List, length, Option, Some, None, nat_lt, nat_le}
 use Rattle.std.specs.Option.{is_some, is_none}
 use Rattle.std.specs.FinMap.{FinMap, contains_key, from_entries, len}
-use Rattle.office_records.specs.Lists.{numbered, holds_of}
+use Rattle.office_records.specs.Lists.{numbered, is_some_and}
 use Rattle.office_records.specs.Tree.{TreeState, code_cmp}
 use Rattle.office_records.specs.declared.aggregation.Aggregation.{Aggregation}
 use Rattle.office_records.specs.declared.class.Class.{Class}
@@ -49,4 +49,4 @@ abbrev pub is_placed : List Aggregation → ℕ → Aggregation → Option ℕ �
 is_placed aggregations a it None = true
 is_placed aggregations a it (Some p) =
     nat_le 1 p && nat_lt p a
-    && (is_some it.closed || holds_of (numbered aggregations p) (λ parent. is_none parent.closed))
+    && (is_some it.closed || is_some_and (numbered aggregations p) (λ parent. is_none parent.closed))

@@ -2,7 +2,7 @@
 ghost use Rattle.std.specs.Prelude.{◌≡◌, ◌&&◌};
 ghost use Rattle.std.specs.Ordering.{int_eq};
 ghost use Rattle.office_records.specs.Disposal.{same_action};
-ghost use Rattle.office_records.specs.Lists.{holds_of};
+ghost use Rattle.office_records.specs.Lists.{is_some_and};
 
 use crate::{Action, Confirmation};
 use office_days::DueDay;
@@ -16,7 +16,7 @@ pub fn same_action(one: Action, other: Action) -> bool
 
 /// Whether the due day, if there is one, is that of the confirmation.
 fn is_same_due(confirmed: DueDay, due: Option<DueDay>) -> bool
-    ensures { result ≡ holds_of due (int_eq confirmed) }
+    ensures { result ≡ is_some_and due (int_eq confirmed) }
 {
     match due {
         Some(due) => confirmed == due,
@@ -28,7 +28,7 @@ impl Confirmation {
     /// Whether it is of that action and that due day; it counts only where these are the record's.
     pub fn is_of(&self, action: Action, due: Option<DueDay>) -> bool
         ensures { result ≡ same_action self.now.action action
-            && holds_of due (int_eq self.now.due) }
+            && is_some_and due (int_eq self.now.due) }
     {
         if !same_action(self.action, action) {
             return false;

@@ -5,7 +5,7 @@ use Rattle.std.proofs.lemmas.Bool.Decides.{nat_tests}
 use Rattle.std.specs.Cmp.{nat_cmp_total}
 use Rattle.std.specs.FinMap.{get, get-insert, get-remove}
 use Rattle.std.specs.Ordering.{nat_cmp, eq_by_cmp}
-use Rattle.office_records.specs.Lists.{holds_of}
+use Rattle.office_records.specs.Lists.{is_some_and}
 use Rattle.office_base.specs.declared.refusal.Refusal.TheVariants.{NoRun}
 use Rattle.office_rules.specs.declared.outcome.Outcome.{Outcome}
 use Rattle.office_rules.specs.declared.outcome.Outcome.TheVariants as outcome
@@ -25,7 +25,7 @@ same_test r c = elim (cases_eq r c) [
   | inr other ↦ let a : eq_by_cmp nat_cmp r c ≡ false = grind (arith, nat_tests) in let b : (c == r) ≡ false = grind (arith, nat_tests) in a ∙ sym b
 ]
 
-get-removed : (contents : ByteMap) (c r : ℕ) (o : Outcome) → ended_by (answer.Step c o) ≡ Some c → get (contents_with contents c (Some o)) r ≡ cond (c == r) None (get contents r)
+pub get-removed : (contents : ByteMap) (c r : ℕ) (o : Outcome) → ended_by (answer.Step c o) ≡ Some c → get (contents_with contents c (Some o)) r ≡ cond (c == r) None (get contents r)
 get-removed contents c r outcome.Sent e = absurd cc
 get-removed contents c r outcome.Skipped e = absurd cc
 get-removed contents c r outcome.Destroyed e = get-remove nat_cmp_total contents c r ∙ ap (λ b. cond b None (get contents r)) (same_test r c)
@@ -33,7 +33,7 @@ get-removed contents c r outcome.Transferred e = get-remove nat_cmp_total conten
 
 -- the content of r, without what this answer reports to be ended
 abbrev pub left_by : State → ℕ → Answer → Option (List ℕ)
-left_by s r reported = cond (holds_of (ended_by reported) (λ e. e == r)) None (get s.contents r)
+left_by s r reported = cond (is_some_and (ended_by reported) (λ e. e == r)) None (get s.contents r)
 
 by_outcome : (s : State) (c r : ℕ) (o : Option Outcome) → get (contents_with s.contents c o) r ≡ left_by s r (answer.Step c (unwrap_or o outcome.Skipped))
 by_outcome s c r None = refl

@@ -9,7 +9,7 @@ use Rattle.std.specs.Cmp.Lexicographic.{nat_list_cmp_total}
 use Rattle.std.specs.FinMap.{get, get-insert, insert, slice_cmp-IsAntisymmetric, nat_cmp-IsAntisymmetric, IsAntisymmetric}
 use Rattle.std.specs.FinSet.{contains, contains-empty, contains-insert, contains-remove}
 use Rattle.std.proofs.lemmas.Map.Text.{is_eq-slice_cmp}
-use Rattle.office_records.specs.Lists.{amended, holds_of}
+use Rattle.office_records.specs.Lists.{amended, is_some_and}
 use Rattle.office_records.specs.Tree.{code_cmp}
 use Rattle.office_records.proofs.Inserting.{get-amended, same_code}
 use Rattle.office_rules.specs.HoldEffects.{with_target, without_target}
@@ -72,7 +72,7 @@ hold_from-row row None = refl
 hold_from-row row (Some hold) = refl
 
 -- a hold's columns that are put in leave its targets, of which a new one has none
-has-hold_from : (row : HoldRow) (o : Option HoldState) (t : Target) → has_target (hold_from row o) t ≡ holds_of o (λ hold. has_target hold t)
+has-hold_from : (row : HoldRow) (o : Option HoldState) (t : Target) → has_target (hold_from row o) t ≡ is_some_and o (λ hold. has_target hold t)
 has-hold_from row None (target.Class q) = contains-empty code_cmp q
 has-hold_from row None (target.Aggregation q) = contains-empty nat_cmp q
 has-hold_from row None (target.Record q) = contains-empty nat_cmp q
@@ -82,26 +82,26 @@ has-hold_from row (Some hold) (target.Record q) = refl
 
 -- ---- the targets of all holds
 
-has_by : (row : HoldRow) (b : Bool) (here there : Option HoldState) (t : Target) → (b ≡ true → there ≡ here) → holds_of (cond b (Some (hold_from row here)) there) (λ hold. has_target hold t) ≡ holds_of there (λ hold. has_target hold t)
-has_by row true here there t same = has-hold_from row here t ∙ ap (λ (o : Option HoldState). holds_of o (λ hold. has_target hold t)) (sym (same refl))
+has_by : (row : HoldRow) (b : Bool) (here there : Option HoldState) (t : Target) → (b ≡ true → there ≡ here) → is_some_and (cond b (Some (hold_from row here)) there) (λ hold. has_target hold t) ≡ is_some_and there (λ hold. has_target hold t)
+has_by row true here there t same = has-hold_from row here t ∙ ap (λ (o : Option HoldState). is_some_and o (λ hold. has_target hold t)) (sym (same refl))
 has_by row false here there t same = refl
 
 pub targets_of-hold : (holds : HoldMap) (code : List ℕ) (row : HoldRow) → targets_of (insert holds code (hold_from row (get holds code))) ≡ targets_of holds
 targets_of-hold holds code row = λ i q t. (
-    ap (λ (o : Option HoldState). holds_of o (λ hold. has_target hold t)) (get-insert nat_list_cmp_total holds code (hold_from row (get holds code)) q)
+    ap (λ (o : Option HoldState). is_some_and o (λ hold. has_target hold t)) (get-insert nat_list_cmp_total holds code (hold_from row (get holds code)) q)
     ∙ has_by row (eq_by_cmp code_cmp q code) (get holds code) (get holds q) t (λ tie. ap (get holds) (same_code q code tie))) i
 
 put_by : (new t : Target) (b same_byte : Bool) (here there : Option HoldState) → IsSome here → b ≡ same_byte → (b ≡ true → there ≡ here)
-    → holds_of (cond b (option_map (with_target new) here) there) (λ hold. has_target hold t) ≡ ((same_byte && same_target new t) || holds_of there (λ hold. has_target hold t))
+    → is_some_and (cond b (option_map (with_target new) here) there) (λ hold. has_target hold t) ≡ ((same_byte && same_target new t) || is_some_and there (λ hold. has_target hold t))
 put_by new t true true None there is e same = absurd cc
-put_by new t true true (Some hold) there is e same = has-with_target new t hold ∙ ap (λ (o : Option HoldState). same_target new t || holds_of o (λ it. has_target it t)) (sym (same refl))
+put_by new t true true (Some hold) there is e same = has-with_target new t hold ∙ ap (λ (o : Option HoldState). same_target new t || is_some_and o (λ it. has_target it t)) (sym (same refl))
 put_by new t true false here there is e same = absurd cc
 put_by new t false true here there is e same = absurd cc
 put_by new t false false here there is e same = refl
 
 pub targets_of-put : (holds : HoldMap) (code : List ℕ) (new : Target) → IsSome (get holds code) → targets_of (amended holds code (with_target new)) ≡ (λ q t. is_pair code new q t || targets_of holds q t)
 targets_of-put holds code new is = λ i q t. (
-    ap (λ (o : Option HoldState). holds_of o (λ hold. has_target hold t)) (get-amended holds code (with_target new) q)
+    ap (λ (o : Option HoldState). is_some_and o (λ hold. has_target hold t)) (get-amended holds code (with_target new) q)
     ∙ put_by new t (eq_by_cmp code_cmp q code) (bytes_eq code q) (get holds code) (get holds q) is (tied_code q code) (λ tie. ap (get holds) (same_code q code tie))) i
 
 false_and : (b : Bool) → false ≡ (b && false)
@@ -109,14 +109,14 @@ false_and true = refl
 false_and false = refl
 
 gone_by : (gone t : Target) (b same_byte : Bool) (here there : Option HoldState) → b ≡ same_byte → (b ≡ true → there ≡ here)
-    → holds_of (cond b (option_map (without_target gone) here) there) (λ hold. has_target hold t) ≡ (not (same_byte && same_target gone t) && holds_of there (λ hold. has_target hold t))
-gone_by gone t true true None there e same = false_and (not (same_target gone t)) ∙ ap (λ (o : Option HoldState). not (same_target gone t) && holds_of o (λ it. has_target it t)) (sym (same refl))
-gone_by gone t true true (Some hold) there e same = has-without_target gone t hold ∙ ap (λ (o : Option HoldState). not (same_target gone t) && holds_of o (λ it. has_target it t)) (sym (same refl))
+    → is_some_and (cond b (option_map (without_target gone) here) there) (λ hold. has_target hold t) ≡ (not (same_byte && same_target gone t) && is_some_and there (λ hold. has_target hold t))
+gone_by gone t true true None there e same = false_and (not (same_target gone t)) ∙ ap (λ (o : Option HoldState). not (same_target gone t) && is_some_and o (λ it. has_target it t)) (sym (same refl))
+gone_by gone t true true (Some hold) there e same = has-without_target gone t hold ∙ ap (λ (o : Option HoldState). not (same_target gone t) && is_some_and o (λ it. has_target it t)) (sym (same refl))
 gone_by gone t true false here there e same = absurd cc
 gone_by gone t false true here there e same = absurd cc
 gone_by gone t false false here there e same = refl
 
 pub targets_of-gone : (holds : HoldMap) (code : List ℕ) (gone : Target) → targets_of (amended holds code (without_target gone)) ≡ (λ q t. not (is_pair code gone q t) && targets_of holds q t)
 targets_of-gone holds code gone = λ i q t. (
-    ap (λ (o : Option HoldState). holds_of o (λ hold. has_target hold t)) (get-amended holds code (without_target gone) q)
+    ap (λ (o : Option HoldState). is_some_and o (λ hold. has_target hold t)) (get-amended holds code (without_target gone) q)
     ∙ gone_by gone t (eq_by_cmp code_cmp q code) (bytes_eq code q) (get holds code) (get holds q) (tied_code q code) (λ tie. ap (get holds) (same_code q code tie))) i

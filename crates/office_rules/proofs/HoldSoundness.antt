@@ -14,7 +14,7 @@ use Rattle.std.proofs.lemmas.Int.{ints}
 use Rattle.office_days.specs.Limits.{IsDayNumber}
 use Rattle.office_records.specs.Conditions.{first_of}
 use Rattle.office_records.specs.Forms.{IsCode, IsText}
-use Rattle.office_records.specs.Lists.{amended, holds_of}
+use Rattle.office_records.specs.Lists.{amended, is_some_and}
 use Rattle.office_records.specs.Tree.{code_cmp}
 use Rattle.office_records.specs.declared.class.Class.{Class}
 use Rattle.office_records.proofs.Accepting.{none_holds, below}
@@ -222,7 +222,7 @@ without_count (target.Record r) hold = omega (arith, len_less nat_cmp_total hold
 
 -- a hold that is there has room for a target
 has_room : (holds : HoldMap) (code : List ℕ) (hold : HoldState) → get holds code ≡ Some hold → has_all_targets holds code ≡ false → target_count hold < 1_000
-has_room holds code hold is room = below (target_count hold) 1_000 (sym (ap (λ (o : Option HoldState). holds_of o (λ it. nat_le 1_000 (target_count it))) is) ∙ room)
+has_room holds code hold is room = below (target_count hold) 1_000 (sym (ap (λ (o : Option HoldState). is_some_and o (λ it. nat_le 1_000 (target_count it))) is) ∙ room)
 
 abbrev pub HasFewTargets : List ℕ → HoldState → Type 0
 HasFewTargets code hold = target_count hold ≤ 1_000

@@ -15,7 +15,7 @@ use Rattle.std.specs.FinSet.{contains, contains-insert}
 use Rattle.std.specs.FinSet as set
 use Rattle.office_records.specs.Conditions.{first_of}
 use Rattle.office_records.specs.Effects.{added_aggregation, closed_aggregation, added_record, with_head, with_record_schedule, confirmed, reviewed, receipted, with_class_schedule, added_schedule, added_class}
-use Rattle.office_records.specs.Lists.{numbered, edited, edited_at, first_some, holds_of, amended_by}
+use Rattle.office_records.specs.Lists.{numbered, edited, edited_at, first_some, is_some_and, amended_by}
 use Rattle.office_records.specs.Sound.{IsSound}
 use Rattle.office_records.specs.Tree.{TreeState, code_cmp, chain, chain_of, own_classes, class_in, above_in, above_head}
 use Rattle.office_records.specs.declared.action.Action.{Action}
@@ -55,7 +55,7 @@ of_none b e = absurd cc
 -- one hold covers what another does where each of its parts does
 pub covers_if : (x y : HoldState) (r : ℕ) (numbers others : List ℕ) (class other : Option (List ℕ))
     → (is_in_force x ≡ true → is_in_force y ≡ true) → (contains x.records r ≡ true → contains y.records r ≡ true)
-    → (list_any (contains x.aggregations) numbers ≡ true → list_any (contains y.aggregations) others ≡ true) → (holds_of class (contains x.classes) ≡ true → holds_of other (contains y.classes) ≡ true)
+    → (list_any (contains x.aggregations) numbers ≡ true → list_any (contains y.aggregations) others ≡ true) → (is_some_and class (contains x.classes) ≡ true → is_some_and other (contains y.classes) ≡ true)
     → hold_covers x r numbers class ≡ true → hold_covers y r others other ≡ true
 covers_if x y r numbers others class other force records aggregations classes =
     both_more (is_in_force x) (is_in_force y) _ _ force
@@ -170,11 +170,11 @@ held-close_aggregation holds tree a day r e =
 -- ---- a new record
 
 pub class_of_none : (hold : HoldState) (r : ℕ) (numbers : List ℕ) (other : Option (List ℕ)) → hold_covers hold r numbers None ≡ true → hold_covers hold r numbers other ≡ true
-class_of_none hold r numbers other = covers_if hold hold r numbers numbers None other (λ e. e) (λ e. e) (λ e. e) (of_none (holds_of other (contains hold.classes)))
+class_of_none hold r numbers other = covers_if hold hold r numbers numbers None other (λ e. e) (λ e. e) (λ e. e) (of_none (is_some_and other (contains hold.classes)))
 
 alone : (hold : HoldState) (r : ℕ) (others : List ℕ) (other : Option (List ℕ)) → hold_covers hold r [] None ≡ true → hold_covers hold r others other ≡ true
 alone hold r others other =
-    covers_if hold hold r [] others None other (λ e. e) (λ e. e) (of_none (list_any (contains hold.aggregations) others)) (of_none (holds_of other (contains hold.classes)))
+    covers_if hold hold r [] others None other (λ e. e) (λ e. e) (of_none (list_any (contains hold.aggregations) others)) (of_none (is_some_and other (contains hold.classes)))
 
 -- held in a tree of these aggregations and records
 abbrev pub held_of : HoldMap → List Aggregation → List Record → ℕ → Bool
@@ -301,7 +301,7 @@ kept_number s k n e = contains-insert nat_cmp_total s k n ∙ more_items (eq_by_
 kept_code : (s : set.FinSet code_cmp) (k c : List ℕ) → contains s c ≡ true → contains (set.insert s k) c ≡ true
 kept_code s k c e = contains-insert nat_list_cmp_total s k c ∙ more_items (eq_by_cmp code_cmp c k) (contains s c) e
 
-kept_class : (s : set.FinSet code_cmp) (k : List ℕ) (class : Option (List ℕ)) → holds_of class (contains s) ≡ true → holds_of class (contains (set.insert s k)) ≡ true
+kept_class : (s : set.FinSet code_cmp) (k : List ℕ) (class : Option (List ℕ)) → is_some_and class (contains s) ≡ true → is_some_and class (contains (set.insert s k)) ≡ true
 kept_class s k None e = e
 kept_class s k (Some c) e = kept_code s k c e
 

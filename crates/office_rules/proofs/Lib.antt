@@ -3,6 +3,7 @@ pub mod AmendedHolds
 pub mod Candidates
 pub mod Certifying
 pub mod Changes
+pub mod CompleteRuns
 pub mod Contents
 pub mod DateBytes
 pub mod DigestDigits

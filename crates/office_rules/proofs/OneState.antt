@@ -6,7 +6,7 @@ use Rattle.std.specs.Cmp.Lexicographic.{nat_list_cmp_total}
 use Rattle.std.specs.FinMap.{entries, get, same_map, same_entries_map, nat_cmp-IsAntisymmetric}
 use Rattle.std.specs.FinMap.Entries.{find}
 use Rattle.std.specs.FinSet.{same_set}
-use Rattle.office_records.specs.Lists.{holds_of}
+use Rattle.office_records.specs.Lists.{is_some_and}
 use Rattle.office_records.specs.Tree.{code_cmp}
 use Rattle.office_rules.specs.Holds.{HoldMap, HoldState, has_target}
 use Rattle.office_rules.specs.HoldRows.{hold_row}
@@ -27,7 +27,7 @@ same_hold h g rows on =
     let records = same_set nat_cmp_total nat_cmp-IsAntisymmetric h.records g.records (λ q. on (target.Record q)) in
     λ i. record { reason = (rows i).reason; placed = (rows i).placed; by = (rows i).placed_by; lifted = (rows i).lifted; classes = classes i; aggregations = aggregations i; records = records i }
 
-same_found : (o p : Option HoldState) → option_map hold_row o ≡ option_map hold_row p → ((t : Target) → holds_of o (λ hold. has_target hold t) ≡ holds_of p (λ hold. has_target hold t)) → o ≡ p
+same_found : (o p : Option HoldState) → option_map hold_row o ≡ option_map hold_row p → ((t : Target) → is_some_and o (λ hold. has_target hold t) ≡ is_some_and p (λ hold. has_target hold t)) → o ≡ p
 same_found None None e on = refl
 same_found None (Some g) e on = absurd cc
 same_found (Some h) None e on = absurd cc

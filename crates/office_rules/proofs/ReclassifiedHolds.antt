@@ -9,7 +9,7 @@ use Rattle.std.specs.FinSet.{contains}
 use Rattle.std.proofs.lemmas.Slice.Eq.{bytes_eq-Decides}
 use Rattle.office_records.specs.Conditions.{first_of, conditions_of_reclassify}
 use Rattle.office_records.specs.Effects.{reclassified}
-use Rattle.office_records.specs.Lists.{numbered, edited, edited_at, first_some, holds_of}
+use Rattle.office_records.specs.Lists.{numbered, edited, edited_at, first_some, is_some_and}
 use Rattle.office_records.specs.Sound.{IsSound}
 use Rattle.office_records.specs.Tree.{TreeState, chain, own_classes, aggregation_class_in, class_in, above_in, above_head}
 use Rattle.office_records.specs.declared.aggregation.Aggregation.{Aggregation}
@@ -39,11 +39,11 @@ held_without : (holds : HoldMap) (r : ℕ) (numbers : List ℕ) (old : List ℕ)
 unfolding held_in is_held_class
 held_without holds r numbers old new none h =
     any_left (λ hold. hold_covers hold r numbers (Some old)) (λ hold. hold_covers hold r numbers new) (λ hold. is_in_force hold && contains hold.classes old)
-    (λ hold. without (is_in_force hold) (contains hold.records r || list_any (contains hold.aggregations) numbers) (contains hold.classes old) (holds_of new (contains hold.classes))) (values holds) h none
+    (λ hold. without (is_in_force hold) (contains hold.records r || list_any (contains hold.aggregations) numbers) (contains hold.classes old) (is_some_and new (contains hold.classes))) (values holds) h none
 
 -- a held class is left for another or for none
 abbrev leaves_held : HoldMap → Option (List ℕ) → Option (List ℕ) → Bool
-leaves_held holds old new = holds_of old (λ code. not (holds_of new (bytes_eq code)) && is_held_class holds code)
+leaves_held holds old new = is_some_and old (λ code. not (is_some_and new (bytes_eq code)) && is_held_class holds code)
 
 held_elsewhere : (holds : HoldMap) (r : ℕ) (numbers : List ℕ) (old new : List ℕ) (b : Bool) → bytes_eq old new ≡ b → (not b && is_held_class holds old) ≡ false → held_in holds r numbers (Some old) ≡ true → held_in holds r numbers (Some new) ≡ true
 held_elsewhere holds r numbers old new true e none h = let same : old ≡ new = (bytes_eq-Decides old new).0 e in ap (λ code. held_in holds r numbers (Some code)) (sym same) ∙ h

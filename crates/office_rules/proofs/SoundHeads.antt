@@ -8,7 +8,7 @@ use Rattle.office_records.specs.Conditions.{first_of, conditions_of_set_record_s
 use Rattle.office_records.specs.Disposal.{is_disposal, is_sent, same_action}
 use Rattle.office_records.specs.Effects.{with_head, reclassified, confirmed, receipted}
 use Rattle.office_records.specs.Forms.{IsCode, IsText}
-use Rattle.office_records.specs.Lists.{numbered, edited, edited_at, holds_of, or_else}
+use Rattle.office_records.specs.Lists.{numbered, edited, edited_at, is_some_and, or_else}
 use Rattle.office_records.specs.Sound.{NamesExist}
 use Rattle.office_records.specs.Tree.{action_of, due_of, due_by, has_record, is_keep, schedule_of, start_in}
 use Rattle.office_records.specs.declared.action.Action.{Action}
@@ -151,7 +151,7 @@ not_other : (here test : Bool) → here ≡ true → (here && not test) ≡ fals
 not_other true test there e = not_false test e
 not_other false test there e = absurd cc
 
-held_some : {A : Type 0} (o : Option A) (test : A → Bool) → holds_of o test ≡ true → IsSome o
+held_some : {A : Type 0} (o : Option A) (test : A → Bool) → is_some_and o test ≡ true → IsSome o
 held_some None test e = absurd cc
 held_some (Some x) test e = refl
 
@@ -173,7 +173,7 @@ due_not_kept : (schedule : Schedule) (start : Option ℤ) → IsSome (due_by sch
 unfolding due_by
 due_not_kept schedule start there = not_kept (is_keep schedule.action) _ there
 
-disposal_of : (o : Option Schedule) (start : Schedule → Option ℤ) (named : Action) → IsSome (option_and_then (λ schedule. due_by schedule (start schedule)) o) → holds_of (option_map (λ (schedule : Schedule). schedule.action) o) (same_action named) ≡ true → same_action named action.Review ≡ false → is_disposal named ≡ true
+disposal_of : (o : Option Schedule) (start : Schedule → Option ℤ) (named : Action) → IsSome (option_and_then (λ schedule. due_by schedule (start schedule)) o) → is_some_and (option_map (λ (schedule : Schedule). schedule.action) o) (same_action named) ≡ true → same_action named action.Review ≡ false → is_disposal named ≡ true
 disposal_of None start named due same other = absurd cc
 disposal_of (Some schedule) start named due same other = named_disposal named schedule.action (due_not_kept schedule (start schedule) due) same other
 
@@ -200,9 +200,9 @@ confirm_documents s day r named by sound accepted =
     let t = s.office.tree in
     let none = none_holds (conditions_of_confirm t day r named) accepted in
     let there = not_false (has_record t r) none.0 in
-    let is_due = held_some (due_of t r) _ (not_other (has_record t r) (holds_of (due_of t r) (λ due. int_le due day)) there none.1.1.1.0) in
+    let is_due = held_some (due_of t r) _ (not_other (has_record t r) (is_some_and (due_of t r) (λ due. int_le due day)) there none.1.1.1.0) in
     let actions = neither (has_other_action t r named) (same_action named action.Review) none.1.1.1.1.0 in
-    let same = not_other (has_record t r) (holds_of (action_of t r) (same_action named)) there actions.0 in
+    let same = not_other (has_record t r) (is_some_and (action_of t r) (same_action named)) there actions.0 in
     let disposal = disposal_of (schedule_of t r) (λ schedule. start_in t.aggregations t.records t.events schedule r) named is_due same actions.1 in
     documents_with_head s r (λ head. record head { confirmation = confirmation_for day named by (due_of t r) }) sound
     (record { confirmed = λ head old. confirms day named by (due_of t r) is_due; disposal = λ head old. confirms_disposal day named by (due_of t r) disposal; receipt = λ head receipt. receipt })
@@ -284,8 +284,8 @@ sent_of Ended e = absurd cc
 abbrev IsSentAt : List Status → ℕ → Type 0
 IsSentAt statuses r = (status : Status) → numbered statuses r ≡ Some status → status ≡ Sent
 
-sent_at : (statuses : List Status) (r : ℕ) → holds_of (numbered statuses r) (λ status. not (is_sent status)) ≡ false → IsSentAt statuses r
-sent_at statuses r e status is = sent_of status (sym (ap (λ (o : Option Status). holds_of o (λ it. not (is_sent it))) is) ∙ e)
+sent_at : (statuses : List Status) (r : ℕ) → is_some_and (numbered statuses r) (λ status. not (is_sent status)) ≡ false → IsSentAt statuses r
+sent_at statuses r e status is = sent_of status (sym (ap (λ (o : Option Status). is_some_and o (λ it. not (is_sent it))) is) ∙ e)
 
 module _ (statuses : List Status) (r : ℕ) (sent : IsSentAt statuses r) where
   abbrev received_now : List Status

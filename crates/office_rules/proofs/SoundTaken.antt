@@ -4,7 +4,7 @@ use Rattle.std.specs.Prelude.{IsSome, ◌&&◌, int_le}
 use Rattle.std.specs.Option.{option_and_then}
 use Rattle.std.specs.List.{find}
 use Rattle.office_records.specs.Disposal.{is_disposal, counts, confirmation_of}
-use Rattle.office_records.specs.Lists.{numbered, numbers_after, holds_of}
+use Rattle.office_records.specs.Lists.{numbered, numbers_after, is_some_and}
 use Rattle.office_records.specs.Tree.{TreeState, action_of, due_of}
 use Rattle.office_records.specs.declared.action.Action.{Action}
 use Rattle.office_records.specs.declared.action.Action.TheVariants as action
@@ -62,7 +62,7 @@ both true b e = (refl, e)
 both false b e = absurd cc
 
 -- a test that holds of what is there
-pub holds_is : {A : Type 0} (o : Option A) (test : A → Bool) → holds_of o test ≡ true → (x : A) × (o ≡ Some x) × (test x ≡ true)
+pub holds_is : {A : Type 0} (o : Option A) (test : A → Bool) → is_some_and o test ≡ true → (x : A) × (o ≡ Some x) × (test x ≡ true)
 holds_is None test e = absurd cc
 holds_is (Some x) test e = (x, refl, e)
 
@@ -120,9 +120,9 @@ confirmed_head tree r head e h = let is = holds_is (confirmation_of tree r) _ h 
 taken_here : (s : State) (run r : ℕ) (head : Record) → cursor_of s.office run < r → numbered s.office.tree.records r ≡ Some head → numbered s.office.tree.statuses r ≡ Some Here
     → may_begin s.office.tree r (run_day s.office run) ≡ true → Taken s run r
 taken_here s run r head above there status may =
-    let due = holds_of (due_of s.office.tree r) (λ due. int_le due (run_day s.office run)) in
-    let begins = both (holds_of (action_of s.office.tree r) is_disposal && due) (counts s.office.tree r) may in
-    let plan = holds_is (action_of s.office.tree r) is_disposal (both (holds_of (action_of s.office.tree r) is_disposal) due begins.0).0 in
+    let due = is_some_and (due_of s.office.tree r) (λ due. int_le due (run_day s.office run)) in
+    let begins = both (is_some_and (action_of s.office.tree r) is_disposal && due) (counts s.office.tree r) may in
+    let plan = holds_is (action_of s.office.tree r) is_disposal (both (is_some_and (action_of s.office.tree r) is_disposal) due begins.0).0 in
     let comes = comes_here plan.0 (is_held s.office.holds s.office.tree r) plan.2 in
     taken_of s run r head Here above there status (confirmed_head s.office.tree r head there begins.1)
     (comes.0, ap (λ a. outcome_by (Some Here) a (is_held s.office.holds s.office.tree r)) plan.1 ∙ comes.1, comes.2)

@@ -7,7 +7,7 @@ use Rattle.office_base.specs.declared.refusal.Refusal.{Refusal}
 use Rattle.office_base.specs.declared.refusal.Refusal.TheVariants.{DayBack, NoSuch, Ended, InTransfer, NotDue, WrongAction}
 use Rattle.office_records.specs.Conditions.{first_of, has_ended, is_under_way}
 use Rattle.office_records.specs.Disposal.{same_action, confirmation_of, counts}
-use Rattle.office_records.specs.Lists.{holds_of}
+use Rattle.office_records.specs.Lists.{is_some_and}
 use Rattle.office_records.specs.Tree.{class_in, above_in, chain, start_in, has_record, class_of, plan_of, due_of, action_of}
 use Rattle.office_records.specs.declared.action.Action.{Action}
 use Rattle.office_records.specs.declared.action.Action.TheVariants.{Review, Transfer, Destroy}
@@ -37,8 +37,8 @@ confirming s day r named due action d a =
     ∷ (NoSuch, not (has_record s.tree r))
     ∷ (Ended, has_ended s.tree r)
     ∷ (InTransfer, is_under_way s.tree r)
-    ∷ (NotDue, has_record s.tree r && not (holds_of (d i) (λ due. int_le due day)))
-    ∷ (WrongAction, (has_record s.tree r && not (holds_of (a i) (same_action named))) || same_action named Review)
+    ∷ (NotDue, has_record s.tree r && not (is_some_and (d i) (λ due. int_le due day)))
+    ∷ (WrongAction, (has_record s.tree r && not (is_some_and (a i) (same_action named))) || same_action named Review)
     ∷ [])
 
 pub is_not_due : first_of (refusals_of_confirm base_office day_before_due 1 Destroy) ≡ Some NotDue
@@ -78,7 +78,7 @@ action_after = planned_action confirmed_office.tree 1 plan_after schedule_there
 
 pub confirmation_counts : counts confirmed_office.tree 1 ≡ true
 confirmation_counts =
-    λ i. holds_of (stored i) (λ it. holds_of (action_after i) (same_action it.action) && holds_of (due_after i) (int_eq it.due))
+    λ i. is_some_and (stored i) (λ it. is_some_and (action_after i) (same_action it.action) && is_some_and (due_after i) (int_eq it.due))
 
 pub other_does_not_count : counts confirmed_office.tree 2 ≡ false
 other_does_not_count = refl

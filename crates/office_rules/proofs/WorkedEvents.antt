@@ -8,7 +8,7 @@ use Rattle.std.specs.Ordering.{int_eq, nat_cmp}
 use Rattle.office_base.specs.declared.refusal.Refusal.TheVariants.{NotYet}
 use Rattle.office_records.specs.Conditions.{first_of}
 use Rattle.office_records.specs.Disposal.{confirmation_of, counts, same_action}
-use Rattle.office_records.specs.Lists.{holds_of}
+use Rattle.office_records.specs.Lists.{is_some_and}
 use Rattle.office_records.specs.Tree.{action_of, due_by, due_of, plan_in, plan_of, start_in}
 use Rattle.office_records.specs.declared.action.Action.TheVariants.{Destroy}
 use Rattle.office_records.specs.declared.event.Event.{Event}
@@ -89,7 +89,7 @@ action_stays = action_where event_confirmed.tree 1 (codes "E") by_event plan_sta
 
 pub confirmation_counts : counts event_confirmed.tree 1 ≡ true
 confirmation_counts =
-    λ i. holds_of (stored i) (λ it. holds_of (action_stays i) (same_action it.action) && holds_of (due_stays i) (int_eq it.due))
+    λ i. is_some_and (stored i) (λ it. is_some_and (action_stays i) (same_action it.action) && is_some_and (due_stays i) (int_eq it.due))
 
 -- ---- another event is recorded
 
@@ -112,4 +112,4 @@ due_is_later = due_where again_recorded.tree 1 (codes "E") by_event plan_stays s
 
 pub does_not_count : counts again_recorded.tree 1 ≡ false
 does_not_count =
-    λ i. holds_of (stored i) (λ it. holds_of (action_stays i) (same_action it.action) && holds_of (due_is_later i) (int_eq it.due))
+    λ i. is_some_and (stored i) (λ it. is_some_and (action_stays i) (same_action it.action) && is_some_and (due_is_later i) (int_eq it.due))

@@ -10,7 +10,7 @@ use Rattle.office_base.specs.declared.refusal.Refusal.{Refusal}
 use Rattle.office_base.specs.declared.refusal.Refusal.TheVariants.{DayBack, Exists, NoSuch, Full, NeedsClass, HeldClass, Lifted, Ended, InTransfer, RunOpen, NoRun}
 use Rattle.office_records.specs.Conditions.{conditions_of_add_schedule, conditions_of_add_class, conditions_of_set_class_schedule, conditions_of_add_aggregation, conditions_of_close_aggregation, conditions_of_add_record, conditions_of_set_record_schedule, conditions_of_confirm, conditions_of_review, conditions_of_receipt, conditions_of_event, lacks_class, lacks_classified, is_root, classified_status}
 use Rattle.office_records.specs.Disposal.{is_ended, is_in_transfer}
-use Rattle.office_records.specs.Lists.{holds_of}
+use Rattle.office_records.specs.Lists.{is_some_and}
 use Rattle.office_records.specs.Tree.{TreeState, has_aggregation, has_record, status_of}
 use Rattle.office_records.specs.declared.action.Action.{Action}
 use Rattle.office_records.specs.declared.class.Class.{Class}
@@ -59,8 +59,8 @@ conditions_of_reclassifying s what class =
     (NoSuch, lacks_classified s.tree what || lacks_class s.tree class)
     ∷ (NeedsClass, is_root s.tree what && is_none class)
     ∷ (HeldClass, would_leave_held_class s.holds s.tree what class)
-    ∷ (Ended, holds_of (classified_status s.tree what) is_ended)
-    ∷ (InTransfer, holds_of (classified_status s.tree what) is_in_transfer)
+    ∷ (Ended, is_some_and (classified_status s.tree what) is_ended)
+    ∷ (InTransfer, is_some_and (classified_status s.tree what) is_in_transfer)
     ∷ []
 
 abbrev pub refusals_of_reclassify : Office → ℤ → Classified → Option (List ℕ) → List (Refusal × Bool)
@@ -84,7 +84,7 @@ target_status tree (target.Record r) = status_of tree r
 -- what the tree reports of a target: it is not there; it is an ended record
 abbrev pub conditions_of_target : TreeState → Target → List (Refusal × Bool)
 conditions_of_target tree target =
-    (NoSuch, lacks_target tree target) ∷ (Ended, holds_of (target_status tree target) is_ended) ∷ []
+    (NoSuch, lacks_target tree target) ∷ (Ended, is_some_and (target_status tree target) is_ended) ∷ []
 
 -- the hold has that target; no such hold or target; the hold has 1,000 targets; it is lifted; the target is an ended
 -- record
@@ -94,7 +94,7 @@ conditions_of_covering s code target =
     ∷ (NoSuch, is_none (get s.holds code) || lacks_target s.tree target)
     ∷ (Full, has_all_targets s.holds code)
     ∷ (Lifted, is_lifted s.holds code)
-    ∷ (Ended, holds_of (target_status s.tree target) is_ended)
+    ∷ (Ended, is_some_and (target_status s.tree target) is_ended)
     ∷ []
 
 abbrev pub refusals_of_hold_on : Office → ℤ → List ℕ → Target → List (Refusal × Bool)

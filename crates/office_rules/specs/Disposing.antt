@@ -3,7 +3,7 @@
 use Rattle.std.specs.Prelude.{ℕ, Bool, true, false, ◌&&◌, List, [], Option, Some, None, ℤ, int_le, if◌then◌else◌}
 use Rattle.std.specs.Option.{unwrap_or, option_map}
 use Rattle.office_records.specs.Disposal.{is_disposal, counts, confirmation_of}
-use Rattle.office_records.specs.Lists.{holds_of}
+use Rattle.office_records.specs.Lists.{is_some_and}
 use Rattle.office_records.specs.Tree.{TreeState, class_of, plan_of, action_of, due_of, status_of}
 use Rattle.office_records.specs.declared.action.Action.{Action}
 use Rattle.office_records.specs.declared.action.Action.TheVariants as action
@@ -18,7 +18,7 @@ use Rattle.office_rules.specs.State.{Office}
 -- its action is to transfer or to destroy, it is due, and its confirmation counts
 abbrev pub may_begin : TreeState → ℕ → ℤ → Bool
 may_begin tree r day =
-    holds_of (action_of tree r) is_disposal && holds_of (due_of tree r) (λ due. int_le due day) && counts tree r
+    is_some_and (action_of tree r) is_disposal && is_some_and (due_of tree r) (λ due. int_le due day) && counts tree r
 
 abbrev pub ready_by : Option Status → Bool → Bool
 ready_by (Some status.Here) may = may

@@ -8,7 +8,7 @@ use Rattle.std.specs.FinSet as set
 use Rattle.office_base.specs.declared.refusal.Refusal.{Refusal}
 use Rattle.office_base.specs.declared.refusal.Refusal.TheVariants.{Exists, NoSuch, Full, HeldClass, Lifted}
 use Rattle.office_records.specs.Effects.{reclassified}
-use Rattle.office_records.specs.Lists.{holds_of}
+use Rattle.office_records.specs.Lists.{is_some_and}
 use Rattle.office_records.specs.Tree.{TreeState, class_of, aggregation_class_of}
 use Rattle.office_records.specs.declared.classified.Classified.{Classified}
 use Rattle.office_records.specs.declared.classified.Classified.TheVariants as classified
@@ -21,15 +21,15 @@ target_count hold = set.len hold.classes + set.len hold.aggregations + set.len h
 
 -- the hold is there and has that target
 abbrev pub holds_target : HoldMap → List ℕ → Target → Bool
-holds_target holds code target = holds_of (get holds code) (λ hold. has_target hold target)
+holds_target holds code target = is_some_and (get holds code) (λ hold. has_target hold target)
 
 -- the hold is there and lifted
 abbrev pub is_lifted : HoldMap → List ℕ → Bool
-is_lifted holds code = holds_of (get holds code) (λ hold. is_some hold.lifted)
+is_lifted holds code = is_some_and (get holds code) (λ hold. is_some hold.lifted)
 
 -- the hold is there and has 1,000 targets
 abbrev pub has_all_targets : HoldMap → List ℕ → Bool
-has_all_targets holds code = holds_of (get holds code) (λ hold. nat_le 1_000 (target_count hold))
+has_all_targets holds code = is_some_and (get holds code) (λ hold. nat_le 1_000 (target_count hold))
 
 -- the code is there; there are 1,000, lifted ones counted
 abbrev pub conditions_of_place_hold : HoldMap → List ℕ → List (Refusal × Bool)
@@ -69,8 +69,8 @@ classified_class tree (classified.Record r) = class_of tree r
 -- its class would change, and a hold in force targets the old one
 abbrev pub would_leave_held_class : HoldMap → TreeState → Classified → Option (List ℕ) → Bool
 would_leave_held_class holds tree what class =
-    holds_of (classified_class tree what) (λ old.
-    not (holds_of (classified_class (reclassified tree what class) what) (bytes_eq old)) && is_held_class holds old)
+    is_some_and (classified_class tree what) (λ old.
+    not (is_some_and (classified_class (reclassified tree what class) what) (bytes_eq old)) && is_held_class holds old)
 
 -- a held class would be left
 abbrev pub conditions_of_leaving_class : HoldMap → TreeState → Classified → Option (List ℕ) → List (Refusal × Bool)

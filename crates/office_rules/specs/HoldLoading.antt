@@ -4,7 +4,7 @@ use Rattle.std.specs.FinMap.{entries, get}
 use Rattle.std.specs.List.{All, list_any}
 use Rattle.std.specs.Str.{bytes_eq}
 use Rattle.std.specs.declared.cmp.Ordering.TheVariants.{Less}
-use Rattle.office_records.specs.Lists.{holds_of}
+use Rattle.office_records.specs.Lists.{is_some_and}
 use Rattle.office_records.specs.Tree.{code_cmp}
 use Rattle.office_rules.specs.HoldConditions.{target_count}
 use Rattle.office_rules.specs.Holds.{HoldMap, has_target}
@@ -33,12 +33,12 @@ pub record AreRowsOf (rows : List (List ℕ × HoldRow)) (targets : List (List �
     pub columns : hold_rows holds ≡ rows
     pub targets_exist : (code : List ℕ) (target : Target)
         → list_any (λ e. is_pair e.0 e.1 code target) targets
-        ≡ holds_of (get holds code) (λ hold. has_target hold target)
+        ≡ is_some_and (get holds code) (λ hold. has_target hold target)
 
 -- the hold is there, and it has the target or room for it
 abbrev pub takes_target : HoldMap → List ℕ → Target → Bool
 takes_target holds code target =
-    holds_of (get holds code) (λ hold. has_target hold target || not (nat_le 1_000 (target_count hold)))
+    is_some_and (get holds code) (λ hold. has_target hold target || not (nat_le 1_000 (target_count hold)))
 
 -- the code is above those of all the holds
 abbrev pub IsAbove : HoldMap → List ℕ → Type 0

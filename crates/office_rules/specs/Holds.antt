@@ -5,7 +5,7 @@ use Rattle.std.specs.Option.{is_none}
 use Rattle.std.specs.Ordering.{nat_cmp}
 use Rattle.std.specs.FinMap.{FinMap, entries, values}
 use Rattle.std.specs.FinSet.{FinSet, contains}
-use Rattle.office_records.specs.Lists.{holds_of}
+use Rattle.office_records.specs.Lists.{is_some_and}
 use Rattle.office_records.specs.Tree.{TreeState, code_cmp, above, class_of}
 use Rattle.office_records.specs.declared.target.Target.{Target}
 use Rattle.office_records.specs.declared.target.Target.TheVariants as target
@@ -39,7 +39,7 @@ abbrev pub hold_covers : HoldState → ℕ → List ℕ → Option (List ℕ) �
 hold_covers hold r containers class =
     is_in_force hold
     && (contains hold.records r || list_any (contains hold.aggregations) containers
-    || holds_of class (contains hold.classes))
+    || is_some_and class (contains hold.classes))
 
 unfoldable pub covers_in : HoldMap → ℕ → List ℕ → Option (List ℕ) → List (List ℕ)
 covers_in holds r containers class = map (λ e. e.0) (filter (λ e. hold_covers e.1 r containers class) (entries holds))

@@ -9,7 +9,7 @@ use Rattle.office_records.specs.Disposal.{is_ended}
 use Rattle.office_records.specs.Examined.{AllHaveDocuments, AreContentsShort, IsTreeBy}
 use Rattle.office_records.specs.Forms.{IsWellFormedTree}
 use Rattle.office_records.specs.Loading.{is_there}
-use Rattle.office_records.specs.Lists.{holds_of, numbered}
+use Rattle.office_records.specs.Lists.{is_some_and, numbered}
 use Rattle.office_records.specs.Sound as tree
 use Rattle.office_records.specs.Sound.{AreEventsSound}
 use Rattle.office_records.specs.Tree.{status_of}
@@ -46,9 +46,9 @@ is_entry_right s e =
     && is_there s.tree.schedules (Some e.schedule)
     && is_there s.holds e.hold
     && (if is_skipping e.outcome then is_some e.hold else is_none e.hold)
-    && holds_of (numbered s.runs e.run) (λ it. nat_le e.record_no it.cursor)
-    && holds_of (numbered s.tree.records e.record_no) (λ head. not (is_transferring e.outcome) || is_some head.receipt)
-    && holds_of (status_of s.tree e.record_no) (λ status. not (is_ending e.outcome) || is_ended status)
+    && is_some_and (numbered s.runs e.run) (λ it. nat_le e.record_no it.cursor)
+    && is_some_and (numbered s.tree.records e.record_no) (λ head. not (is_transferring e.outcome) || is_some head.receipt)
+    && is_some_and (status_of s.tree e.record_no) (λ status. not (is_ending e.outcome) || is_ended status)
 
 -- under each record the run of the entry that ended it
 pub record AreEndings (ends : FinMap nat_cmp ℕ) (es : List Entry) : Type 0 where

@@ -9,7 +9,7 @@ use Rattle.std.specs.declared.cmp.Ordering.{Ordering}
 use Rattle.std.specs.FinMap.{values}
 use Rattle.office_days.specs.Due.{deadline_from}
 use Rattle.office_records.specs.Disposal.{counts, is_here}
-use Rattle.office_records.specs.Lists.{holds_of, numbered}
+use Rattle.office_records.specs.Lists.{is_some_and, numbered}
 use Rattle.office_records.specs.Tree.{TreeState, action_of, class_of, due_of, event_day, plan_of, status_of}
 use Rattle.office_records.specs.declared.action.Action.TheVariants.{Keep}
 use Rattle.office_records.specs.declared.head.Record.{Record}
@@ -63,7 +63,7 @@ record_view s r = view_by s r (numbered s.tree.records r) (status_of s.tree r)
 
 -- the record is here, and due on that day or before it
 abbrev pub is_due_here : TreeState → ℤ → ℕ → Bool
-is_due_here tree day r = holds_of (status_of tree r) is_here && holds_of (due_of tree r) (λ due. int_le due day)
+is_due_here tree day r = is_some_and (status_of tree r) is_here && is_some_and (due_of tree r) (λ due. int_le due day)
 
 -- by due day, then number
 abbrev pub due_cmp : TreeState → ℕ → ℕ → Ordering
@@ -82,8 +82,8 @@ pub record IsDueList (tree : TreeState) (day : ℤ) (list : List ℕ) : Type 0 w
 -- counts
 abbrev pub is_overdue : TreeState → ℤ → ℕ → ℕ → Bool
 is_overdue tree day n r =
-    holds_of (status_of tree r) is_here
-    && (holds_of (due_of tree r) (λ due. int_lt (deadline_from due n) day) && not (counts tree r))
+    is_some_and (status_of tree r) is_here
+    && (is_some_and (due_of tree r) (λ due. int_lt (deadline_from due n) day) && not (counts tree r))
 
 -- its deadline; of a record without a due day, which is never overdue, any day
 abbrev pub deadline_or : TreeState → ℕ → ℕ → ℤ

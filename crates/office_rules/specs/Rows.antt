@@ -6,7 +6,7 @@ use Rattle.std.specs.String.{string_bytes}
 use Rattle.std.specs.FinMap.{entries, get}
 use Rattle.std.specs.FinMap.Entries.{put, where_key}
 use Rattle.office_base.specs.Rows.{numbered_rows}
-use Rattle.office_records.specs.Lists.{holds_of}
+use Rattle.office_records.specs.Lists.{is_some_and}
 use Rattle.office_records.specs.Tree.{code_cmp}
 use Rattle.office_records.specs.declared.aggregation.Aggregation.{Aggregation}
 use Rattle.office_records.specs.declared.class.Class.{Class}
@@ -73,7 +73,7 @@ record_rows (head ∷ heads) (status ∷ statuses) = record_row head status ∷ 
 
 -- which hold has which target
 abbrev pub targets_of : HoldMap → List ℕ → Target → Bool
-targets_of holds code target = holds_of (get holds code) (λ hold. has_target hold target)
+targets_of holds code target = is_some_and (get holds code) (λ hold. has_target hold target)
 
 -- the rows that represent a state
 unfoldable pub rows_of : State → TableRows

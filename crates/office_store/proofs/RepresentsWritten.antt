@@ -3,7 +3,7 @@ use Rattle.std.proofs.Common.{◌≡◌, ◌+◌, ℕ, zero, suc, true, List, []
 use Rattle.std.specs.FinMap.{get}
 use Rattle.std.specs.Prelude.{slice_get}
 use Rattle.sqlite.specs.Effect.{Database}
-use Rattle.office_records.specs.Lists.{holds_of, numbered}
+use Rattle.office_records.specs.Lists.{is_some_and, numbered}
 use Rattle.office_records.specs.declared.head.Record.{Record}
 use Rattle.office_records.specs.declared.status.Status.{Status}
 use Rattle.office_rules.specs.Holds.{HoldMap, HoldState, has_target}
@@ -112,7 +112,7 @@ represents_all_written s (w ∷ ws) old new e can free short own represents did 
 
 -- ---- of a sound state
 
-pub there_is_hold : (o : Option HoldState) (t : Target) → holds_of o (λ hold. has_target hold t) ≡ true → (hold : HoldState) × (o ≡ Some hold) × (has_target hold t ≡ true)
+pub there_is_hold : (o : Option HoldState) (t : Target) → is_some_and o (λ hold. has_target hold t) ≡ true → (hold : HoldState) × (o ≡ Some hold) × (has_target hold t ≡ true)
 there_is_hold None t h = absurd cc
 there_is_hold (Some hold) t h = (hold, refl, h)
 

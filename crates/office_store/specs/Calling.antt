@@ -19,7 +19,7 @@ use Rattle.office_sql.specs.Schema.{office}
 use Rattle.office_sql.specs.declared.schema_versions.SchemaVersion.{SchemaVersion}
 use Rattle.office_sql.specs.declared.schema_versions.SchemaVersion.TheVariants as schema_version
 use Rattle.office_store.specs.Adopted.{AreNumbersAndBytes, HoldNoOffice, IsNamed, IsOtherVersion, IsRead, LeavesLess, StaysAtRest}
-use Rattle.office_store.specs.RepresentsRows.{HoldsOldRows, HoldsRows, LeavesFirst, LeavesMoved, LeavesOffices, LeavesWithin}
+use Rattle.office_store.specs.RepresentsRows.{ContainsOldRows, ContainsRows, LeavesFirst, LeavesMoved, LeavesOffices, LeavesWithin}
 use Rattle.office_store.specs.Stored.{AllReadable}
 use Rattle.office_store.specs.declared.fault.Fault.{Fault}
 use Rattle.office_store.specs.declared.fault.Fault.TheVariants as fault
@@ -38,7 +38,7 @@ layout_number None = 0
 
 -- the tables are those of a new office, and whatever else was there is kept
 pub record AreNew (old new : State) : Type 0 where
-  pub rows : HoldsRows (rows_of empty_state) new
+  pub rows : ContainsRows (rows_of empty_state) new
   pub rest : Leaves (KeepsRest old.now) new
 
 -- what a crash leaves where a new office was not made
@@ -135,10 +135,10 @@ pub record IsNotAdopted {S : Type 0} (g : Ghosts S) (conn : Held S) (f : Fault) 
 
 -- how it ends over tables of version 1 that have these rows
 pub record AreMoved {X E : Type 0} (t : TableRows) (old new : State) (result : Result X E) : Type 0 where
-  pub ok : OnOk result (HoldsRows t new)
+  pub ok : OnOk result (ContainsRows t new)
   pub err : OnErr result (LeavesMoved t old new)
   -- where no fault has shut the connection, the old tables are there
-  pub undone : IsTrue new.is_open → OnErr result (HoldsOldRows t new)
+  pub undone : IsTrue new.is_open → OnErr result (ContainsOldRows t new)
   pub rest : Leaves (KeepsRest old.now) new
 
 -- how a migration ends
@@ -146,7 +146,7 @@ pub record Migrated {X : Type 0} (old new : State) (result : Result X Fault) : T
   pub faults : IfErr result (λ f. f ≡ fault.Store)
   pub clean : HasCleanDisk new → HasCleanDisk old
   pub shield : old.IsShielded → new.IsShielded
-  pub moved : (s : OfficeState) → HasCleanDisk new → HoldsOldRows (rows_of s) old → AreMoved (rows_of s) old new result
+  pub moved : (s : OfficeState) → HasCleanDisk new → ContainsOldRows (rows_of s) old → AreMoved (rows_of s) old new result
 
 -- ---- a change that is saved
 
@@ -155,11 +155,11 @@ pub record AreSaved {X E : Type 0} (s : OfficeState) (change : Change) (new : St
   where
     -- of a change that can be made of a sound state the next rows are there, or a crash leaves the old ones or the next
     pub ok : IsSound s → CanBeMade s.office change
-        → OnOk result (HoldsRows (rows_of (all_writes change.writes.items s)) new)
+        → OnOk result (ContainsRows (rows_of (all_writes change.writes.items s)) new)
     pub err : IsSound s → CanBeMade s.office change
         → OnErr result (LeavesWithin (rows_of s) (rows_of (all_writes change.writes.items s)) new)
     -- where no fault has shut the connection, the old rows are there
-    pub undone : IsTrue new.is_open → OnErr result (HoldsRows (rows_of s) new)
+    pub undone : IsTrue new.is_open → OnErr result (ContainsRows (rows_of s) new)
 
 -- whatever a crash leaves is an office's tables again, and the rest of the file is as it was
 pub record LeavesOffice (old new : State) : Type 0 where
@@ -178,8 +178,8 @@ pub record KeepsOffice {S : Type 0} (g : Ghosts S) (old new : Held S) : Type 0 w
 pub record AreBytesRead (s : OfficeState) (number : ℕ) (new : State) (result : Result (Option (Vec ℕ Global)) Fault) :
     Type 0 where
   pub read : IfOk result (λ bytes. option_map (λ it. it.items) bytes ≡ get s.contents number)
-  pub same : OnOk result (HoldsRows (rows_of s) new)
-  pub kept : IfErr result (λ f. f ≢ fault.Store → HoldsRows (rows_of s) new)
+  pub same : OnOk result (ContainsRows (rows_of s) new)
+  pub kept : IfErr result (λ f. f ≢ fault.Store → ContainsRows (rows_of s) new)
   pub intact : result ≢ Err fault.Damaged
 
 -- how the reading of a content ends
@@ -188,4 +188,4 @@ pub record ReadsBytes (number : ℕ) (old new : State) (result : Result (Option 
   pub clean : HasCleanDisk new → HasCleanDisk old
   pub shield : old.IsShielded → new.IsShielded
   pub leaves : HasCleanDisk new → IsAtRest old → LeavesLess old new
-  pub content : (s : OfficeState) → HasCleanDisk new → HoldsRows (rows_of s) old → AreBytesRead s number new result
+  pub content : (s : OfficeState) → HasCleanDisk new → ContainsRows (rows_of s) old → AreBytesRead s number new result

@@ -72,12 +72,12 @@ abbrev pub OldRepresentsRows : TableRows → Trees → Type 0
 OldRepresentsRows t db = RepresentsRowsIn schema_version.One t db
 
 -- between calls: the tables have these rows, and a crash leaves just these
-pub record HoldsRows (t : TableRows) (s : State) : Type 0 where
+pub record ContainsRows (t : TableRows) (s : State) : Type 0 where
   pub rest : IsAtRest s
   pub represents : RepresentsRows t s.now.trees
 
 -- the same of an office of version 1
-pub record HoldsOldRows (t : TableRows) (s : State) : Type 0 where
+pub record ContainsOldRows (t : TableRows) (s : State) : Type 0 where
   pub rest : IsAtRestOver schema_version.One s
   pub represents : OldRepresentsRows t s.now.trees
 

@@ -3,7 +3,7 @@ use Rattle.std.proofs.Common.{◌≡◌, ℕ, ◌+◌, ◌-◌, ◌<◌, ◌≤�
 use Rattle.std.specs.Prelude.{IfNone, IfSome, IsTrue}
 use Rattle.std.proofs.lemmas.Option.{slice_get_cases, slice_get_past}
 use Rattle.office_records.specs.Disposal.{counts, is_disposal}
-use Rattle.office_records.specs.Lists.{holds_of}
+use Rattle.office_records.specs.Lists.{is_some_and}
 use Rattle.office_tree.specs.Marks.{mark_at, mark_of}
 use Rattle.office_records.specs.Candidates.{HasNoCandidateAbove, IsNextCandidate, candidate_by, is_candidate}
 use Rattle.office_tree.specs.RecordCaches.{AreRecordCaches}
@@ -17,7 +17,7 @@ use Rattle.office_records.proofs.Reading.{record_there}
 past_records : (tree : TreeState) (r : ℕ) → IsSound tree → length tree.records < r → is_candidate tree r ≡ false
 unfolding is_candidate
 past_records tree r sound past =
-    ap (λ o. candidate_by o (holds_of (action_of tree r) is_disposal && counts tree r))
+    ap (λ o. candidate_by o (is_some_and (action_of tree r) is_disposal && counts tree r))
     (numbered_at tree.statuses r (r - 1) (omega arith) ∙ slice_get_past tree.statuses (r - 1) (omega (arith, sound.statuses)))
 
 pub marked_as : (codes : List (List ℕ)) (tree now : TreeState) (looks : List RecordCache) (r : ℕ) → AreRecordCaches codes tree looks → IsSound tree → tree ≡ now → 0 < r

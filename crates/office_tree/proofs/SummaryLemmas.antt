@@ -5,7 +5,7 @@ use Rattle.std.specs.List.{list_any, list_all}
 use Rattle.std.specs.Option.{option_and_then, is_some}
 use Rattle.office_records.specs.Disposal.{is_below, is_ended, records_below, is_spent}
 use Rattle.office_records.specs.Lasting.{AggregationStays, HeadStays}
-use Rattle.office_records.specs.Lists.{numbered, numbers_after, holds_of, put, put_at}
+use Rattle.office_records.specs.Lists.{numbered, numbers_after, is_some_and, put, put_at}
 use Rattle.office_records.specs.Rows.{put_aggregation, put_record, put_schedule, put_class}
 use Rattle.office_records.specs.Sound.{IsSound, IsForest}
 use Rattle.office_tree.specs.Summaries.{active_below}
@@ -62,7 +62,7 @@ head_below aggregations a o = list_any (λ b. b == a) (above_head aggregations o
 
 -- the record is not ended
 abbrev pub is_active : TreeState → ℕ → Bool
-is_active tree r = not (holds_of (status_of tree r) is_ended)
+is_active tree r = not (is_some_and (status_of tree r) is_ended)
 
 -- the record is below the aggregation, and not ended
 abbrev is_active_below : TreeState → ℕ → ℕ → Bool
@@ -87,13 +87,13 @@ below_put_other tree q head status a r h other =
     below_head (put_record tree q head status) a r ∙ ap (head_below tree.aggregations a) (numbered-put_other tree.records q head r h other) ∙ sym (below_head tree a r)
 
 active_put_other : (tree : TreeState) (q : ℕ) (head : Record) (status : Status) (r : ℕ) → q ≤ length tree.statuses + 1 → (r ≡ q → ⊥) → is_active (put_record tree q head status) r ≡ is_active tree r
-active_put_other tree q head status r h other = ap (λ o. not (holds_of o is_ended)) (numbered-put_other tree.statuses q status r h other)
+active_put_other tree q head status r h other = ap (λ o. not (is_some_and o is_ended)) (numbered-put_other tree.statuses q status r h other)
 
 below_put_here : (tree : TreeState) (q : ℕ) (head : Record) (status : Status) (a : ℕ) → 0 < q → q ≤ length tree.records + 1 → is_below (put_record tree q head status) a q ≡ is_at_or_above tree head.aggregation a
 below_put_here tree q head status a low high = below_aggregation (put_record tree q head status) a q head (numbered-put tree.records q head low high)
 
 active_put_here : (tree : TreeState) (q : ℕ) (head : Record) (status : Status) → 0 < q → q ≤ length tree.statuses + 1 → is_active (put_record tree q head status) q ≡ not (is_ended status)
-active_put_here tree q head status low high = ap (λ o. not (holds_of o is_ended)) (numbered-put tree.statuses q status low high)
+active_put_here tree q head status low high = ap (λ o. not (is_some_and o is_ended)) (numbered-put tree.statuses q status low high)
 
 -- tests of the records there that agree, and of one more
 added_count : (p q : ℕ → Bool) (old new n : ℕ) (b : Bool) → new ≡ old + 1 → n ≡ old + 1 → ((r : ℕ) → (r ≡ n → ⊥) → p r ≡ q r) → q n ≡ b → length (filter q (numbers_after 0 new)) ≡ length (filter p (numbers_after 0 old)) + cond b 1 0
@@ -190,7 +190,7 @@ records-put tree q head status a old there stays =
 pub active-put_kept : (tree : TreeState) (q : ℕ) (head : Record) (status : Status) (a : ℕ) (old : Record) (was : Status) → numbered tree.records q ≡ Some old → HeadStays old head
     → numbered tree.statuses q ≡ Some was → is_ended status ≡ is_ended was → active_below (put_record tree q head status) a ≡ active_below tree a
 active-put_kept tree q head status a old was there stays status_there same =
-    let active : (r : ℕ) → is_active (put_record tree q head status) r ≡ is_active tree r = λ r. numbered-put_reads (λ o. not (holds_of o is_ended)) tree.statuses q status was r status_there (ap not same) in
+    let active : (r : ℕ) → is_active (put_record tree q head status) r ≡ is_active tree r = λ r. numbered-put_reads (λ o. not (is_some_and o is_ended)) tree.statuses q status was r status_there (ap not same) in
     (λ t. filter (λ r. active r t) (records-put tree q head status a old there stays t))
 
 -- what it adds to and takes from the number of those that are not ended
@@ -203,7 +203,7 @@ active-put tree q head status a old was there stays status_there =
     let status_within = numbered_within tree.statuses q was status_there in
     let long : length (put tree.records q head) ≡ length tree.records = length-put tree.records q head within.1 in
     let before : is_active_below tree a q ≡ is_at_or_above tree old.aggregation a && not (is_ended was) =
-    (λ t. below_aggregation tree a q old there t && not (holds_of (status_there t) is_ended)) in
+    (λ t. below_aggregation tree a q old there t && not (is_some_and (status_there t) is_ended)) in
     let after : is_active_below next a q ≡ is_at_or_above tree old.aggregation a && not (is_ended status) =
     (λ t. (below_put tree q head status a old there stays q ∙ below_aggregation tree a q old there) t && active_put_here tree q head status within.0 (omega (arith, status_within.1)) t) in
     let agree : (r : ℕ) → (r ≡ q → ⊥) → is_active_below tree a r ≡ is_active_below next a r =
@@ -358,12 +358,12 @@ active-put_class tree code class a = refl
 
 -- ---- what is spent, by these numbers
 
-pub all_ended_by_count : (tree : TreeState) (a : ℕ) → list_all (λ r. holds_of (status_of tree r) is_ended) (records_below tree a) ≡ nat_eq (length (active_below tree a)) 0
-all_ended_by_count tree a = all_by_count (λ r. holds_of (status_of tree r) is_ended) (records_below tree a)
+pub all_ended_by_count : (tree : TreeState) (a : ℕ) → list_all (λ r. is_some_and (status_of tree r) is_ended) (records_below tree a) ≡ nat_eq (length (active_below tree a)) 0
+all_ended_by_count tree a = all_by_count (λ r. is_some_and (status_of tree r) is_ended) (records_below tree a)
 
-pub spent_by_counts : (tree : TreeState) (a : ℕ) → is_spent tree a ≡ holds_of (numbered tree.aggregations a) (λ it. is_some it.closed) && nat_lt 0 (length (records_below tree a)) && nat_eq (length (active_below tree a)) 0
+pub spent_by_counts : (tree : TreeState) (a : ℕ) → is_spent tree a ≡ is_some_and (numbered tree.aggregations a) (λ it. is_some it.closed) && nat_lt 0 (length (records_below tree a)) && nat_eq (length (active_below tree a)) 0
 unfolding is_spent
-spent_by_counts tree a = ap (λ b. holds_of (numbered tree.aggregations a) (λ (it : Aggregation). is_some it.closed) && nat_lt 0 (length (records_below tree a)) && b) (all_ended_by_count tree a)
+spent_by_counts tree a = ap (λ b. is_some_and (numbered tree.aggregations a) (λ (it : Aggregation). is_some it.closed) && nat_lt 0 (length (records_below tree a)) && b) (all_ended_by_count tree a)
 
 -- ---- bounds, and the empty tree
 

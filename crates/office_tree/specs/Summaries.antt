@@ -2,7 +2,7 @@
 use Rattle.std.specs.Prelude.{◌≡◌, ◌==◌, ◌&&◌, ◌+◌, ◌⊎◌, ℕ, Bool, cond, not, List, filter, length, Some, None, ℤ}
 use Rattle.std.specs.List.{list_any}
 use Rattle.office_records.specs.Disposal.{is_ended, records_below}
-use Rattle.office_records.specs.Lists.{numbered, holds_of, later}
+use Rattle.office_records.specs.Lists.{numbered, is_some_and, later}
 use Rattle.office_records.specs.Tree.{TreeState, chain_of, last_addition, status_of}
 use Rattle.office_records.specs.declared.aggregation.Aggregation.{Aggregation}
 use Rattle.office_records.specs.declared.head.Record.{Record}
@@ -10,7 +10,7 @@ use Rattle.office_tree.specs.declared.summary.AggregationSummary.{AggregationSum
 
 -- the records below an aggregation, at any depth, that are not ended
 abbrev pub active_below : TreeState → ℕ → List ℕ
-active_below tree a = filter (λ r. not (holds_of (status_of tree r) is_ended)) (records_below tree a)
+active_below tree a = filter (λ r. not (is_some_and (status_of tree r) is_ended)) (records_below tree a)
 
 -- what is cached of an aggregation is right: the last addition to it, how many records are below it, and how many of
 -- these are not ended

@@ -5,7 +5,7 @@ ghost use Rattle.std.specs.FinMap.{contains_key, len};
 ghost use Rattle.std.specs.List.{list_any};
 ghost use Rattle.std.specs.Str.{bytes_eq};
 ghost use Rattle.office_records.specs.Conditions.{IsLeastOf, conditions_of_add_aggregation, conditions_of_add_class, conditions_of_add_record, conditions_of_add_schedule, conditions_of_close_aggregation, first_of, is_child_of, is_closed, lacks_class, lacks_parent, lacks_schedule};
-ghost use Rattle.office_records.specs.Lists.{holds_of};
+ghost use Rattle.office_records.specs.Lists.{is_some_and};
 ghost use Rattle.office_records.specs.Tree.{chain_of};
 
 use crate::Tree;
@@ -125,7 +125,7 @@ impl Tree {
 
     /// Whether a parent is given that is closed.
     fn has_closed_parent(&self, parent: Option<AggNo>) -> bool
-        ensures { result ≡ holds_of parent (is_closed self.now.aggregations) }
+        ensures { result ≡ is_some_and parent (is_closed self.now.aggregations) }
     {
         match parent {
             Some(aggregation) => self.is_closed(aggregation),
@@ -137,7 +137,7 @@ impl Tree {
     fn has_deepest_parent(&self, parent: Option<AggNo>) -> bool
         requires { lacks_parent self.now parent ≡ false }
         ensures { result
-            ≡ holds_of parent (λ a. nat_le 8 (length (chain_of self.now.aggregations a))) }
+            ≡ is_some_and parent (λ a. nat_le 8 (length (chain_of self.now.aggregations a))) }
     {
         match parent {
             Some(aggregation) => chain_of(&self.aggregations, aggregation).len() >= 8,

@@ -4,7 +4,7 @@ ghost use Rattle.std.specs.Option.{option_copied};
 ghost use Rattle.std.specs.Str.{bytes_eq};
 ghost use Rattle.office_records.specs.Conditions.{IsLeastOf, classified_status, conditions_of_confirm, conditions_of_event, conditions_of_receipt, conditions_of_reclassify, conditions_of_review, conditions_of_set_class_schedule, conditions_of_set_record_schedule, first_of, has_other_action, is_not_due, is_root, lacks_classified};
 ghost use Rattle.office_records.specs.Disposal.{is_ended, is_in_transfer, is_sent};
-ghost use Rattle.office_records.specs.Lists.{holds_of, numbered};
+ghost use Rattle.office_records.specs.Lists.{is_some_and, numbered};
 ghost use Rattle.office_records.specs.Tree.{status_of};
 
 use crate::Tree;
@@ -15,21 +15,21 @@ use office_records::{Action, Classified, Code, RecordNo, Status, first_of, same_
 
 /// Whether a status is given that is ended.
 pub(crate) fn is_ended(status: Option<Status>) -> bool
-    ensures { result ≡ holds_of status is_ended }
+    ensures { result ≡ is_some_and status is_ended }
 {
     matches!(status, Some(Status::Ended))
 }
 
 /// Whether a status is given that is sent or received.
 fn is_in_transfer(status: Option<Status>) -> bool
-    ensures { result ≡ holds_of status is_in_transfer }
+    ensures { result ≡ is_some_and status is_in_transfer }
 {
     matches!(status, Some(Status::Sent | Status::Received))
 }
 
 /// Whether a status is given that is not sent.
 fn is_not_sent(status: Option<Status>) -> bool
-    ensures { result ≡ holds_of status (λ it. not (is_sent it)) }
+    ensures { result ≡ is_some_and status (λ it. not (is_sent it)) }
 {
     matches!(
         status,
@@ -71,7 +71,7 @@ impl Tree {
     /// Whether the record is there and its content has another digest.
     fn has_other_digest(&self, record_no: RecordNo, digest: [u8; 32]) -> bool
         ensures { result
-            ≡ holds_of (numbered self.now.records record_no)
+            ≡ is_some_and (numbered self.now.records record_no)
             (λ head. not (bytes_eq head.digest digest)) }
     {
         if !self.has_record(record_no) {

@@ -4,7 +4,7 @@ ghost use Rattle.std.specs.FinMap.{get};
 ghost use Rattle.std.specs.Ordering.{int_eq};
 ghost use Rattle.office_records.specs.Disposal.{is_disposal, same_action};
 ghost use Rattle.office_tree.specs.Inheriting.{has_own_class};
-ghost use Rattle.office_records.specs.Lists.{holds_of};
+ghost use Rattle.office_records.specs.Lists.{is_some_and};
 ghost use Rattle.office_records.specs.Candidates.{candidate_by};
 ghost use Rattle.office_tree.specs.RecordCaches.{IsRecordCache};
 ghost use Rattle.office_tree.specs.Derived.{CanCache};
@@ -81,8 +81,8 @@ fn is_disposal(action: Action) -> bool
 /// Whether the confirmation, if there is one, is of that action and that due day.
 fn is_confirmed(confirmation: &Option<Confirmation>, action: Action, due: Option<DueDay>) -> bool
     ensures { result
-        ≡ holds_of confirmation.now
-        (λ it. same_action it.action action && holds_of due (int_eq it.due)) }
+        ≡ is_some_and confirmation.now
+        (λ it. same_action it.action action && is_some_and due (int_eq it.due)) }
 {
     match confirmation {
         Some(confirmation) => confirmation.is_of(action, due),
@@ -95,8 +95,8 @@ fn is_candidate(head: &Record, status: Status, action: Action, due: Option<DueDa
     ensures { result
         ≡ candidate_by (Some status)
         (is_disposal action
-        && holds_of head.now.confirmation
-        (λ it. same_action it.action action && holds_of due (int_eq it.due))) }
+        && is_some_and head.now.confirmation
+        (λ it. same_action it.action action && is_some_and due (int_eq it.due))) }
 {
     match status {
         Status::Here => is_disposal(action) && is_confirmed(&head.confirmation, action, due),

@@ -6,7 +6,7 @@ ghost use Rattle.std.specs.Option.{is_none, is_some};
 ghost use Rattle.std.specs.Ordering.{nat_cmp};
 ghost use Rattle.office_records.specs.Disposal.{is_ended};
 ghost use Rattle.office_records.specs.Loading.{is_there};
-ghost use Rattle.office_records.specs.Lists.{holds_of, numbered};
+ghost use Rattle.office_records.specs.Lists.{is_some_and, numbered};
 ghost use Rattle.office_records.specs.Tree.{has_record, status_of};
 ghost use Rattle.office_records.specs.declared.status.Status.TheVariants.{Ended};
 ghost use Rattle.office_rules.specs.Outcomes.{is_ending, is_skipping, is_transferring};
@@ -112,7 +112,7 @@ impl Parts {
     /// Whether the run of the entry is there, and the record not above its cursor.
     fn is_entry_passed(&self, entry: &Entry) -> bool
         ensures { result
-            ≡ holds_of (numbered self.now.runs entry.now.run)
+            ≡ is_some_and (numbered self.now.runs entry.now.run)
             (λ it. nat_le entry.now.record_no it.cursor) }
     {
         if entry.run == 0 {
@@ -129,9 +129,9 @@ impl Parts {
     fn is_outcome_right(&self, entry: &Entry) -> bool
         requires { IsTrue (has_record self.now.tree entry.now.record_no) }
         ensures { result
-            ≡ (holds_of (numbered self.now.tree.records entry.now.record_no)
+            ≡ (is_some_and (numbered self.now.tree.records entry.now.record_no)
             (λ head. not (is_transferring entry.now.outcome) || is_some head.receipt)
-            && holds_of (status_of self.now.tree entry.now.record_no)
+            && is_some_and (status_of self.now.tree entry.now.record_no)
             (λ status. not (is_ending entry.now.outcome) || is_ended status)) }
     {
         let ended = self.tree.status(entry.record_no) == Status::Ended;
@@ -175,7 +175,7 @@ impl Parts {
     fn lacks_ending(&self, ends: &BTreeMap<RecordNo, RunNo>, record_no: RecordNo) -> bool
         requires { IsTrue (has_record self.now.tree record_no) }
         ensures { result
-            ≡ (holds_of (status_of self.now.tree record_no) is_ended
+            ≡ (is_some_and (status_of self.now.tree record_no) is_ended
             && is_none (get (from_entries {R = nat_cmp} ends.now.entries) record_no)) }
     {
         self.tree.status(record_no) == Status::Ended && !is_noted(ends, record_no)

@@ -7,7 +7,7 @@ ghost use Rattle.std.specs.List.Sorted.{IsStrictlySortedBy};
 ghost use Rattle.std.specs.Ordering.{nat_cmp};
 ghost use Rattle.office_days.specs.Limits.{IsDayNumber};
 ghost use Rattle.office_records.specs.Disposal.{is_ended};
-ghost use Rattle.office_records.specs.Lists.{holds_of, numbered};
+ghost use Rattle.office_records.specs.Lists.{is_some_and, numbered};
 ghost use Rattle.office_records.specs.declared.status.Status.{Status};
 ghost use Rattle.office_rules.specs.Loading.{AreActiveKeys, AreRunsBy};
 ghost use Rattle.office_rules.specs.Sound.{IsWellFormedRun, RunsAgree};
@@ -47,7 +47,7 @@ fn are_earlier_closed(runs: &[Run]) -> bool
 
 /// Whether the run of that number is there and closed.
 fn is_closed(runs: &[Run], run: RunNo) -> bool
-    ensures { result ≡ holds_of (numbered runs.now run) (λ it. it.is_closed) }
+    ensures { result ≡ is_some_and (numbered runs.now run) (λ it. it.is_closed) }
 {
     1 <= run && run as usize <= runs.len() && runs[run as usize - 1].is_closed
 }
@@ -55,7 +55,7 @@ fn is_closed(runs: &[Run], run: RunNo) -> bool
 /// Whether each certificate is of a closed run.
 fn are_of_closed_runs(runs: &[Run], certificates: &BTreeMap<RunNo, Certificate>) -> bool
     ensures { IsTrue result
-        ↔ All (λ run. holds_of (numbered runs.now run) (λ it. it.is_closed) ≡ true)
+        ↔ All (λ run. is_some_and (numbered runs.now run) (λ it. it.is_closed) ≡ true)
         (map.keys certificates.now) }
 {
     certificates.keys().all(|run| is_closed(runs, *run))
@@ -117,7 +117,7 @@ fn are_by(runs: &[Run], last: Day) -> bool
 /// Whether the record is there and not ended.
 fn is_active(tree: &Tree, record_no: RecordNo) -> bool
     ensures { result
-        ≡ holds_of (numbered tree.now.statuses record_no) (λ status. not (is_ended status)) }
+        ≡ is_some_and (numbered tree.now.statuses record_no) (λ status. not (is_ended status)) }
 {
     tree.sound();
     tree.has_record(record_no) && tree.status(record_no) != Status::Ended
@@ -127,7 +127,7 @@ fn is_active(tree: &Tree, record_no: RecordNo) -> bool
 fn are_active(tree: &Tree, keys: &[RecordNo]) -> bool
     ensures { IsTrue result
         ↔ All
-        (λ r. holds_of (numbered tree.now.statuses r) (λ status. not (is_ended status)) ≡ true)
+        (λ r. is_some_and (numbered tree.now.statuses r) (λ status. not (is_ended status)) ≡ true)
         keys.now }
 {
     keys.iter().all(|record_no| is_active(tree, *record_no))
@@ -146,7 +146,7 @@ fn is_key_at(keys: &[RecordNo], at: usize, record_no: RecordNo) -> bool
 fn are_active_keyed(tree: &Tree, keys: &[RecordNo]) -> bool
     requires ascend { IsStrictlySortedBy nat_cmp keys.now }
     requires active { All
-        (λ r. holds_of (numbered tree.now.statuses r) (λ status. not (is_ended status)) ≡ true)
+        (λ r. is_some_and (numbered tree.now.statuses r) (λ status. not (is_ended status)) ≡ true)
         keys.now }
     ensures yes { IsTrue result → (r : ℕ) (status : Status)
         → numbered tree.now.statuses r ≡ Some status → not (is_ended status) ≡ true

@@ -1,7 +1,7 @@
 //! What becomes of contents, and that nothing is ended under a hold.
 ghost use Rattle.std.specs.Prelude.{◌≡◌, ◌≤◌, ◌==◌, ℕ, suc, true, false, length, Some, None, if◌then◌else◌};
 ghost use Rattle.std.specs.FinMap.{get};
-ghost use Rattle.office_records.specs.Lists.{holds_of};
+ghost use Rattle.office_records.specs.Lists.{is_some_and};
 ghost use Rattle.office_rules.specs.Holds.{is_held};
 ghost use Rattle.office_rules.specs.Effects.{with_new_record};
 ghost use Rattle.office_rules.specs.Meanings.{ended_by};
@@ -21,7 +21,7 @@ pub fn law_of_endings()
 pub fn law_of_contents()
     ensures step { (s : State) (r : ℕ)
         → get (step_run_step s).1.contents r
-        ≡ (if holds_of (ended_by (step_run_step s).0) (λ e. e == r) then None
+        ≡ (if is_some_and (ended_by (step_run_step s).0) (λ e. e == r) then None
         else get s.contents r) }
     ensures added { (s : State) (day : ℤ) (new : NewRecord)
         → get (with_new_record s day new).contents (suc (length s.office.tree.records))

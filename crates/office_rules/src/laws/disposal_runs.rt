@@ -1,18 +1,23 @@
 //! What a disposal run looks at, what it leaves alone, and what its certificate reports.
-ghost use Rattle.std.specs.Prelude.{◌≡◌, ◌≢◌, ◌↔◌, ◌≤◌, ℕ, List, [], ◌∷◌, map, length, slice_get, Some, None, IsTrue};
+ghost use Rattle.std.specs.Prelude.{◌≡◌, ◌≢◌, ◌↔◌, ◌≤◌, ℕ, List, [], ◌∷◌, map, length, slice_get, Some, None, IsTrue, false};
 ghost use Rattle.std.specs.FinMap.{get};
 ghost use Rattle.std.specs.List.{Contains};
 ghost use Rattle.std.specs.List.Sorted.{IsStrictlySortedBy};
 ghost use Rattle.std.specs.Ordering.{nat_cmp};
 ghost use Rattle.office_records.specs.Disposal.{counts, is_below, is_spent};
 ghost use Rattle.office_records.specs.Lists.{numbered};
-ghost use Rattle.office_records.specs.Tree.{TreeState, has_aggregation, has_record, class_of, plan_of, start_of, due_of, status_of};
+ghost use Rattle.office_records.specs.Tree.{TreeState, action_of, has_aggregation, has_record, class_of, plan_of, start_of, due_of, status_of};
+ghost use Rattle.office_records.specs.declared.action.Action.TheVariants as action;
+ghost use Rattle.office_records.specs.declared.status.Status.TheVariants as status;
+ghost use Rattle.office_rules.specs.Disposing.{entry_of, outcome_of};
+ghost use Rattle.office_rules.specs.declared.outcome.Outcome.{Outcome as AnyOutcome};
+ghost use Rattle.office_rules.specs.declared.outcome.Outcome.TheVariants as outcome;
 ghost use Rattle.office_rules.specs.Holds.{is_held, least_covering};
 ghost use Rattle.office_rules.specs.Certificates.{certificate_text};
 ghost use Rattle.office_rules.specs.Outcomes.{is_ending};
 ghost use Rattle.office_rules.specs.declared.entry.Entry.{Entry};
 ghost use Rattle.office_rules.specs.Meanings.{IsCandidate};
-ghost use Rattle.office_rules.specs.Runs.{candidates, next_ready, with_outcomes, entries_of, spent_list, closed};
+ghost use Rattle.office_rules.specs.Runs.{candidates, next_ready, with_outcomes, entries_of, spent_list, closed, whole};
 ghost use Rattle.office_rules.specs.Sound.{IsSound};
 ghost use Rattle.office_rules.specs.State.{State, Office};
 ghost use Rattle.office_rules.specs.declared.run.Run.{Run};
@@ -89,4 +94,24 @@ pub fn law_of_the_certificate()
         (spent_list s.office.tree (entries_of s.office run))) }
     ensures others { (s : State) (run other : ℕ) → other ≢ run
         → get (closed s run).office.certificates other ≡ get s.office.certificates other }
+{}
+
+/// What a run does that nothing interrupts, or that is resumed until it closes. Each of its
+/// candidates, that is each record above its cursor that was ready, has its entry, by the state
+/// before; the content of what is ended is gone. So a record that is here, due by the run's day and
+/// confirmed for destruction, and that no hold in force covers, is destroyed.
+pub fn law_of_complete_runs()
+    ensures entered { (s : State) (run r : ℕ) (o : AnyOutcome) → IsCandidate s.office run r
+        → outcome_of s.office r ≡ Some o
+        → get (whole s run).office.entries (run, r) ≡ Some (entry_of s.office run r o) }
+    ensures gone { (s : State) (run r : ℕ) (o : AnyOutcome) → IsCandidate s.office run r
+        → outcome_of s.office r ≡ Some o → IsTrue (is_ending o)
+        → get (whole s run).contents r ≡ None }
+    ensures destroyed { (s : State) (run r : ℕ) → IsCandidate s.office run r
+        → status_of s.office.tree r ≡ Some status.Here
+        → action_of s.office.tree r ≡ Some action.Destroy
+        → is_held s.office.holds s.office.tree r ≡ false
+        → (get (whole s run).office.entries (run, r)
+        ≡ Some (entry_of s.office run r outcome.Destroyed))
+        × (get (whole s run).contents r ≡ None) }
 {}

@@ -1,6 +1,6 @@
 use Rattle.std.proofs.Common.{ap, sym, ◌∙◌, Some, filter, slice_get}
 use Rattle.std.specs.FinMap.{get}
-use Rattle.office_records.specs.Lists.{holds_of}
+use Rattle.office_records.specs.Lists.{is_some_and}
 use Rattle.office_records.specs.Tree.{above, class_of}
 use Rattle.office_rules.specs.Holds.{hold_covers, least_covering}
 use Rattle.office_holds.specs.contracts.holds.Holds.{the_view}
@@ -13,7 +13,7 @@ returns c =
     let r = c.args.record_no in
     let codes = c.self.inside.in_force.keys in
     c.first_covering.ensures.value
-    ∙ ap (λ numbers. slice_get (filter (λ code. holds_of (get holds code) (λ hold. hold_covers hold r numbers (Some c.class_of.result.now))) codes) 0) (c.deref.ensures.0 ∙ c.above-above.ensures)
-    ∙ ap (λ class. slice_get (filter (λ code. holds_of (get holds code) (λ hold. hold_covers hold r (above c.args.tree.now r) class)) codes) 0) (sym c.class_of.ensures)
+    ∙ ap (λ numbers. slice_get (filter (λ code. is_some_and (get holds code) (λ hold. hold_covers hold r numbers (Some c.class_of.result.now))) codes) 0) (c.deref.ensures.0 ∙ c.above-above.ensures)
+    ∙ ap (λ class. slice_get (filter (λ code. is_some_and (get holds code) (λ hold. hold_covers hold r (above c.args.tree.now r) class)) codes) 0) (sym c.class_of.ensures)
     ∙ least_by_cached holds c.self.inside.counts codes r (above c.args.tree.now r) (class_of c.args.tree.now r) c.self.invariant.1 c.first_covering.ensures.ordered
     ∙ ap (λ h. least_covering h c.args.tree.now r) c.self.view_is
