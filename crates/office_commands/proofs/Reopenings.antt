@@ -9,7 +9,7 @@ use Rattle.sqlite_trees.specs.Tree.{Trees}
 use Rattle.sqlite_wal.specs.Files.{outcomes}
 use Rattle.sqlite_wal.specs.Reads.{AreClean}
 use Rattle.sqlite_wal.specs.Recovery.{Image}
-use Rattle.sqlite.specs.Files.{ContainDatabase, file_state, image_of}
+use Rattle.sqlite.specs.Files.{HoldsDatabase, file_state, image_of}
 use Rattle.sqlite.specs.Held.{AreDatabases, Held}
 use Rattle.sqlite.proofs.Theorems.{opens_again}
 use Rattle.office_sql.specs.declared.schema_versions.SchemaVersion.{SchemaVersion}
@@ -31,6 +31,6 @@ module _ {D : Type 0} {g : Ghosts D} (last : Held (FileStore D g)) where
   pub held_crashed : IsTrue (view last.store).is_numbered → LeavesAnOffice (file_state last) → (left : Image) → (state last.store).may_leave left
       → ∥ ((trees : Trees) × (ed : SchemaVersion) × (file_state last).may_leave trees × HeldOffice ed left trees) ∥₁
   held_crashed numbered leaves left may =
-      ∥∥₁_map (opens_again last.store numbered (are_databases leaves) left may) (λ (db : (x : Trees) × recovers last.store x × ContainDatabase left x).
+      ∥∥₁_map (opens_again last.store numbered (are_databases leaves) left may) (λ (db : (x : Trees) × recovers last.store x × HoldsDatabase left x).
       let is = leaves db.0 db.1 in
       (db.0, is.0, db.1, record { held = ∣ db.2 ∣₁; office = is.1 }))

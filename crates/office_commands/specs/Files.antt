@@ -10,7 +10,7 @@ use Rattle.sqlite_wal.specs.Files.{outcomes}
 use Rattle.sqlite_wal.specs.Reads.{AreClean}
 use Rattle.sqlite_wal.specs.Recovery.{Image}
 use Rattle.sqlite.specs.Closing.{IsCopied}
-use Rattle.sqlite.specs.Files.{AreFoundIn, ContainDatabase, IsClosed, IsEmpty, file_state, image_of, over_files}
+use Rattle.sqlite.specs.Files.{AreFoundIn, HoldsDatabase, IsClosed, IsEmpty, file_state, image_of, over_files}
 use Rattle.sqlite.specs.Held.{Held, state}
 use Rattle.sqlite.specs.State.{State as FileState, HasCleanDisk}
 use Rattle.office_sql.specs.declared.schema_versions.SchemaVersion.{SchemaVersion}
@@ -29,7 +29,7 @@ use Rattle.office_commands.specs.declared.office_files.FilesLeft.TheVariants as 
 
 -- the two files held this database, which has the office's tables of that version, beside whatever else
 pub record HeldOffice (ed : SchemaVersion) (image : Image) (trees : Trees) : Type 0 where
-  pub held : ∥ ContainDatabase image trees ∥₁
+  pub held : ∥ HoldsDatabase image trees ∥₁
   pub office : IsOfficeIn ed trees
 
 -- whatever tables a crash leaves, they are an office's, of one version or the other
@@ -40,7 +40,7 @@ LeavesAnOffice s = (db : Trees) → s.may_leave db → (ed : SchemaVersion) × I
 -- that they held, or has room for one where it found nothing
 pub record IsOpenedFrom {D : Type 0} {g : Ghosts D} (image : Image) (was last : Held (FileStore D g)) : Type 0 where
   pub found : HasCleanDisk (file_state last) → AreFoundIn image (file_state was).now.trees
-  pub holds : HasCleanDisk (file_state last) → (trees : Trees) → ContainDatabase image trees
+  pub holds : HasCleanDisk (file_state last) → (trees : Trees) → HoldsDatabase image trees
       → (file_state was).now.trees ≡ trees
   pub rest : HasCleanDisk (file_state last) → (ed : SchemaVersion) (trees : Trees) → HeldOffice ed image trees
       → IsAtRestOver ed (file_state was) × ((file_state was).now.trees ≡ trees)

@@ -11,7 +11,7 @@ use Rattle.sqlite_trees.specs.View.{IsClean}
 use Rattle.sqlite_wal.specs.Files.{outcomes}
 use Rattle.sqlite_wal.specs.Reads.{AreClean}
 use Rattle.sqlite_wal.specs.Recovery.{Image}
-use Rattle.sqlite.specs.Files.{ContainDatabase, image_of}
+use Rattle.sqlite.specs.Files.{HoldsDatabase, image_of}
 use Rattle.sqlite.specs.State.{State as FileState}
 use Rattle.sqlite.specs.declared.file.Leftover.{Leftover}
 use Rattle.sqlite.specs.declared.file.Leftover.TheVariants as leftover
@@ -37,7 +37,7 @@ use Rattle.office_commands.specs.declared.office_files.FilesLeft.TheVariants as 
 -- the two files hold an office at this state
 pub record ContainOffice (image : Image) (u : State) : Type 0 where
   pub trees : Trees
-  pub held : ∥ ContainDatabase image trees ∥₁
+  pub held : ∥ HoldsDatabase image trees ∥₁
   pub office : IsOfficeAt trees u
 
 -- and where the file has sums, each page has its sum

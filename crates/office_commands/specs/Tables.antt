@@ -8,14 +8,14 @@ use Rattle.sqlite_trees.specs.Tree.{Trees}
 use Rattle.sqlite_wal.specs.Files.{outcomes}
 use Rattle.sqlite_wal.specs.Reads.{AreClean}
 use Rattle.sqlite_wal.specs.Recovery.{Image}
-use Rattle.sqlite.specs.Files.{ContainDatabase, IsEmpty, IsNothing}
+use Rattle.sqlite.specs.Files.{HoldsDatabase, IsEmpty, IsNothing}
 use Rattle.sqlite.specs.declared.file.Leftover.{Leftover}
 use Rattle.sqlite.specs.declared.file.Leftover.TheVariants as left
 use Rattle.office_life.specs.Tables.{ContainTables}
 
 -- there is no database yet, or one without a table
 abbrev pub IsNoneYet : Image → Type 0
-IsNoneYet image = IsNothing image ⊎ ∥ ((tables : Trees) × ContainDatabase image tables × IsEmpty tables) ∥₁
+IsNoneYet image = IsNothing image ⊎ ∥ ((tables : Trees) × HoldsDatabase image tables × IsEmpty tables) ∥₁
 
 -- the files hold the tables that they held; if they held no database, they hold none yet
 pub record KeepsTables (before after : Image) : Type 0 where

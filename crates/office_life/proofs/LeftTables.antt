@@ -20,7 +20,7 @@ use Rattle.sqlite_wal.specs.Files.{outcomes}
 use Rattle.sqlite_wal.specs.Recovery.{Image, IsIgnored}
 use Rattle.sqlite_wal.specs.Recovery as raw
 use Rattle.sqlite.specs.Closing.{files_left}
-use Rattle.sqlite.specs.Files.{ContainDatabase, IsCleanLeft, IsEmpty, IsNothing, LeavesFiles, NamesSize, SaysSums, image_of}
+use Rattle.sqlite.specs.Files.{HoldsDatabase, IsCleanLeft, IsEmpty, IsNothing, LeavesFiles, NamesSize, SaysSums, image_of}
 use Rattle.sqlite.specs.Held.{AreDatabases}
 use Rattle.sqlite.specs.declared.file.Leftover.{Leftover}
 use Rattle.sqlite.specs.declared.file.Leftover.TheVariants as left
@@ -32,7 +32,7 @@ use Rattle.office_life.specs.declared.reports.Remains.{Remains}
 use Rattle.office_life.specs.declared.reports.Remains.TheVariants as remains
 
 -- files that hold tables hold a database
-pub database_of : (image : Image) (trees : Trees) → ContainTables image trees → ContainDatabase image trees
+pub database_of : (image : Image) (trees : Trees) → ContainTables image trees → HoldsDatabase image trees
 database_of image trees h = (
   h.0,
   h.1,
@@ -162,7 +162,7 @@ module _ {D : Type 0} (g : Ghosts D) (never : NeverLies g) where
 
   -- a file was being made, where there was none
   under_way : (files : Files D) (stage : Stage) → IsKnownAt stage remains.Begun → IsNothing (image_of g files) → (image : Image)
-      → IsNothing image ⊎ ∥ ((db : Trees) × ContainDatabase image db × IsEmpty db) ∥₁ → (s : State) → StandsAt stage (image_of g files) s → ∥ StandsAt (stage_after stage remains.Begun) image s ∥₁
+      → IsNothing image ⊎ ∥ ((db : Trees) × HoldsDatabase image db × IsEmpty db) ∥₁ → (s : State) → StandsAt stage (image_of g files) s → ∥ StandsAt (stage_after stage remains.Begun) image s ∥₁
   under_way files stage known nothing image made s (inl held) = absurd (is_something (image_of g files) held.0 (database_of _ held.0 held.1) nothing)
   under_way files stored known nothing image made s (inr none) = absurd none.0
   under_way files unmade known nothing image (inl still) s (inr none) = ∣ inr (inl still, none.1) ∣₁

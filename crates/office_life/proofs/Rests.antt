@@ -9,7 +9,7 @@ use Rattle.sqlite_trees.specs.Sound.{is_sound_list}
 use Rattle.sqlite_trees.specs.Tree.{IsAscending, Trees}
 use Rattle.sqlite_wal.specs.Recovery.{Image}
 use Rattle.sqlite.specs.Effect.{Database}
-use Rattle.sqlite.specs.Files.{AreFoundIn, ContainDatabase, IsEmpty}
+use Rattle.sqlite.specs.Files.{AreFoundIn, HoldsDatabase, IsEmpty}
 use Rattle.sqlite.specs.State.{State as FileState, IsLive, Opens}
 use Rattle.office_rules.specs.Rows.{rows_of}
 use Rattle.office_rules.specs.State.{State, empty_state}
@@ -76,11 +76,11 @@ module _ (s : FileState) (opened : Opens s) (live : IsLive s) (only : (db : Tree
   empty_now : (db : Trees) → s.committed.trees ≡ db → IsEmpty db → IsEmpty s.now.trees
   empty_now db held empty = subst IsEmpty (sym (same_trees ∙ held)) empty
 
-  module _ (image : Image) (holds : (db : Trees) → ContainDatabase image db → s.committed.trees ≡ db) (reads : AreFoundIn image s.committed.trees) where
+  module _ (image : Image) (holds : (db : Trees) → HoldsDatabase image db → s.committed.trees ≡ db) (reads : AreFoundIn image s.committed.trees) where
     blank_at : (u : State) → (db : Trees) → s.committed.trees ≡ db → IsEmpty db → u ≡ empty_state → RestsAt s u
     blank_at u db held empty is = let now = empty_now db held empty in inr (blanks now, now, is)
 
-    office_at : (u : State) (db : Trees) → ContainDatabase image db → IsOfficeAt db u → RestsAt s u
+    office_at : (u : State) (db : Trees) → HoldsDatabase image db → IsOfficeAt db u → RestsAt s u
     office_at u db held at =
         let rest = rests at.schema_version db (holds db held) at.office in
         inl (at.schema_version, rest.0, at.sound, subst (λ (t : Trees). RepresentsRowsIn at.schema_version (rows_of u) t) (sym rest.1) at.rows)

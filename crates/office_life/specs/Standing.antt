@@ -4,7 +4,7 @@ use Rattle.sqlite_disk.specs.declared.Disk.{Ghosts}
 use Rattle.sqlite_store.specs.declared.store.FileStore.{FileStore}
 use Rattle.sqlite_trees.specs.Tree.{Trees}
 use Rattle.sqlite_wal.specs.Recovery.{Image}
-use Rattle.sqlite.specs.Files.{ContainDatabase, IsEmpty, IsNothing, over_files}
+use Rattle.sqlite.specs.Files.{HoldsDatabase, IsEmpty, IsNothing, over_files}
 use Rattle.sqlite.specs.State.{State as FileState}
 use Rattle.sqlite.specs.declared.file.Leftover.{Leftover}
 use Rattle.sqlite.specs.declared.file.Leftover.TheVariants as left
@@ -36,7 +36,7 @@ pub data Stage : Type 0 where
 abbrev pub IsNoneAt : Stage → Image → Type 0
 IsNoneAt stored image = ⊥
 IsNoneAt unmade image = IsNothing image
-IsNoneAt half_made image = IsNothing image ⊎ ((db : Trees) × ContainDatabase image db × IsEmpty db)
+IsNoneAt half_made image = IsNothing image ⊎ ((db : Trees) × HoldsDatabase image db × IsEmpty db)
 
 -- the two files stand for an office at this state: they hold its tables, or there is no file yet and it is the empty one
 abbrev pub StandsAt : Stage → Image → State → Type 0

@@ -9,7 +9,7 @@ use Rattle.sqlite_store.specs.declared.store.FileStore.{FileStore}
 use Rattle.sqlite_trees.specs.Tree.{Trees}
 use Rattle.sqlite_wal.specs.Files.{outcomes}
 use Rattle.sqlite_wal.specs.Recovery.{Image}
-use Rattle.sqlite.specs.Files.{ContainDatabase, IsEmpty, IsNothing, image_of}
+use Rattle.sqlite.specs.Files.{HoldsDatabase, IsEmpty, IsNothing, image_of}
 use Rattle.office_life.specs.declared.reports.Remains.{Remains}
 use Rattle.office_life.specs.declared.reports.Remains.TheVariants as remains
 use Rattle.office_life.specs.declared.reports.Report.{Report}
@@ -28,7 +28,7 @@ module _ {D : Type 0} (g : Ghosts D) where
   pub record IsUnread (files now : Files D) : Type 0 where
     pub store : FileStore D g
     pub over : (now.log, now.db) ≡ files_of store
-    pub same : (found held : Trees) → recovers store found → ContainDatabase (image_of g files) held → found ≡ held
+    pub same : (found held : Trees) → recovers store found → HoldsDatabase (image_of g files) held → found ≡ held
     pub none : (found : Trees) → recovers store found → IsNothing (image_of g files) → IsEmpty found
 
   -- the closing failed: it shut the store over what is left
