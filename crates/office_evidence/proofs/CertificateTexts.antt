@@ -131,13 +131,23 @@ all_lines : (c : Certificate) → IsWellFormedCertificate c → AreTexts (lines_
 unfolding lines_of
 all_lines c formed = (
   labelled (codes "CERTIFICATE ") (decimal c.run) refl (number c.run),
-  (labelled (codes "DAY ") (date_text c.day) refl (date c.day),
-  (labelled (codes "BY ") c.by refl (text_text c.by formed.by),
-  (labelled (codes "ENDED ") (count_in is_ending c.entries) refl (number _),
-  (labelled (codes "SENT ") (count_in is_sending c.entries) refl (number _),
-  (labelled (codes "SKIPPED ") (count_in is_skipping c.entries) refl (number _),
-  both (map (λ line. tabbed (columns_of line)) c.entries) _ (entry_lines c.entries formed.entries)
-  (labelled (codes "SPENT ") (decimal (length c.spent)) refl (number (length c.spent)), spent_lines c.spent formed.spent)))))),
+  (
+    labelled (codes "DAY ") (date_text c.day) refl (date c.day),
+    (
+      labelled (codes "BY ") c.by refl (text_text c.by formed.by),
+      (
+        labelled (codes "ENDED ") (count_in is_ending c.entries) refl (number _),
+        (
+          labelled (codes "SENT ") (count_in is_sending c.entries) refl (number _),
+          (
+            labelled (codes "SKIPPED ") (count_in is_skipping c.entries) refl (number _),
+            both (map (λ line. tabbed (columns_of line)) c.entries) _ (entry_lines c.entries formed.entries)
+                (labelled (codes "SPENT ") (decimal (length c.spent)) refl (number (length c.spent)), spent_lines c.spent formed.spent),
+          ),
+        ),
+      ),
+    ),
+  ),
 )
 
 pub certificate_utf8 : (c : Certificate) (text : List ℕ) → IsTextOf c text → IsUtf8 text
