@@ -52,7 +52,7 @@ module _ (one : IsOneDatabase) (stay : StaySound) (empty : IsSound empty_state) 
   ]
 
 module _ (one : IsOneDatabase) (stay : StaySound) (empty : IsSound empty_state) (ends : IsEnded) {S : Type 0} (g : Ghosts S) (old new : Held S) (s : State) (clean : HasCleanDisk (state g new)) (rests : RestsAt (state g old) s) where
-  desk_rest : (it : RestsAt (state g old) s) (desk : DeskState S) → HasCleanDisk (state g desk.held) → IsDeskOf g old desk → IsAt g s desk
+  desk_rest : (it : RestsAt (state g old) s) (desk : DeskState S) → HasCleanDisk (state g desk.connection) → IsDeskOf g old desk → IsAt g s desk
   desk_rest (inl (ed, rest, sound, rows)) desk clean_desk of = desk_at one stay ends g old new s clean sound ed rest rows desk clean_desk of
   desk_rest (inr (blank, none, is)) desk clean_desk of = subst (λ (t : State). IsAt g t desk) (sym is) (of.opened.made clean_desk blank)
 

@@ -43,7 +43,7 @@ EndedSo (ran_service port count written after exit) was last = ServiceEnds over_
 
 -- what was kept stands for the same state
 kept_at : (image next : Image) → KeepsTables image next → (stage : Stage) (s : State) → IsKnownAt stage remains.Begun → StandsAt stage image s → ∥ StandsAt (stage_after stage remains.Begun) next s ∥₁
-kept_at image next kept stage s known (inl (db, held, at)) = ∣ inl (db, kept.held db held, at) ∣₁
+kept_at image next kept stage s known (inl (db, contained, at)) = ∣ inl (db, kept.contained db contained, at) ∣₁
 kept_at image next kept stored s known (inr none) = absurd none.0
 kept_at image next kept unmade s known (inr none) = elim (kept.none none.0) [
   | inl nothing ↦ ∣ inr (inl nothing, none.1) ∣₁
@@ -67,13 +67,13 @@ module _ {D : Type 0} {g : Ghosts D} (image next : Image) (stage : Stage) (s : S
 
 -- the connection is at rest at the state for which they stood
 rests_from : {D : Type 0} {g : Ghosts D} (image : Image) (was last : Held (FileStore D g)) → IsOpenedFrom image was last → HasCleanDisk (file_state last) → (stage : Stage) (s : State) → StandsAt stage image s → RestsAt (file_state was) s
-rests_from image was last it clean stage s (inl (db, held, inl office)) =
-    let whole = database_of image db held in
+rests_from image was last it clean stage s (inl (db, contained, inl office)) =
+    let whole = database_of image db contained in
     let ed = office.schema_version in
-    let at = it.rest clean ed db (record { held = ∣ whole ∣₁; office = office.office }) in
+    let at = it.rest clean ed db (record { contained = ∣ whole ∣₁; office = office.office }) in
     inl (ed, at.0, office.sound, subst (RepresentsRowsIn ed (rows_of s)) (sym at.1) office.rows)
-rests_from image was last it clean stage s (inl (db, held, inr none)) =
-    let empty = subst IsEmpty (sym (it.holds clean db (database_of image db held))) none.0 in inr (it.blank clean empty, empty, none.1)
+rests_from image was last it clean stage s (inl (db, contained, inr none)) =
+    let empty = subst IsEmpty (sym (it.holds clean db (database_of image db contained))) none.0 in inr (it.blank clean empty, empty, none.1)
 rests_from image was last it clean stored s (inr none) = absurd none.0
 rests_from image was last it clean unmade s (inr none) = let empty = finds_nothing image _ none.0 (it.found clean) in inr (it.blank clean empty, empty, none.1)
 rests_from image was last it clean half_made s (inr (inl nothing, is)) = let empty = finds_nothing image _ nothing (it.found clean) in inr (it.blank clean empty, empty, is)
@@ -86,10 +86,10 @@ module _ {D : Type 0} {g : Ghosts D} (was last : Held (FileStore D g)) (Is : Sta
 
   -- tables that a crash leaves of the connection, which the files hold
   goes_on : HasCleanDisk (file_state last) → (db : Trees) → (file_state last).may_leave db → ContainTables next db → (u : State) × Is u × StandsAt stored next u
-  goes_on clean db may held = let at = leaves clean db may in (at.0, at.1, inl (db, held, tables_at (file_state was) db at.0 at.2))
+  goes_on clean db may contained = let at = leaves clean db may in (at.0, at.1, inl (db, contained, tables_at (file_state was) db at.0 at.2))
 
   closed_at : (it : Files D) → IsClosedCopy last it → (file_state last).may_leave (file_state last).committed.trees → ∥ ContainTables next (file_state last).committed.trees ∥₁ → GoesOn
-  closed_at it copy stays held = ∥∥₁_map held (λ (h : ContainTables next (file_state last).committed.trees). goes_on copy.copied.was_clean (file_state last).committed.trees stays h)
+  closed_at it copy stays contained = ∥∥₁_map contained (λ (h : ContainTables next (file_state last).committed.trees). goes_on copy.copied.was_clean (file_state last).committed.trees stays h)
 
   unclosed_at : (store : FileStore D g) → IsUnclosed last store → IsFoundNext {g = g} (files.Unclosed store) next → GoesOn
   unclosed_at store it (clean, known, may) =
@@ -179,5 +179,5 @@ module _ (one : IsOneDatabase) (stay : StaySound) (empty : IsSound empty_state) 
 
 pub files_follow : (start : Stage) (first : Image) (s : State) (runs : List ProgramRun) (stage : Stage) (image : Image) → StandsAt start first s → FileHistory start first runs stage image → ∥ ((u : State) × StateHistory s runs u × StandsAt stage image u) ∥₁
 files_follow start first s runs stage image stands (began) = ∣ (s, stayed, stands) ∣₁
-files_follow start first s runs stage image stands (went_on before was held run is next history leads) =
-    ∥∥₁_elim (files_follow start first s before was held stands history) squash₁ (λ (t : (x : State) × StateHistory s before x × StandsAt was held x). ∥∥₁_map (leads t.0 t.2) (λ (u : (x : State) × IsLeftAt run t.0 x × StandsAt is next x). (u.0, led before run t.0 u.0 t.1 u.1, u.2)))
+files_follow start first s runs stage image stands (went_on before was contained run is next history leads) =
+    ∥∥₁_elim (files_follow start first s before was contained stands history) squash₁ (λ (t : (x : State) × StateHistory s before x × StandsAt was contained x). ∥∥₁_map (leads t.0 t.2) (λ (u : (x : State) × IsLeftAt run t.0 x × StandsAt is next x). (u.0, led before run t.0 u.0 t.1 u.1, u.2)))

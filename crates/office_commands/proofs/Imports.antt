@@ -21,18 +21,18 @@ use Rattle.office_commands.specs.declared.exit.Exit.{Exit}
 pub imports_of : (AtState AtOther : (State → Type 0) → Type 0) → ((P : State → Type 0) → AtState P → AtOther P) → (day : ℤ) (text : Option (List ℕ)) (new : FileState) (written after : Option (List ℕ)) (e : Exit) → ImportsAt AtState day text new written after e → ImportsAt AtOther day text new written after e
 imports_of AtState AtOther to day text new written after e (done, is, h) = (done, is, to _ h)
 
-row_cut : {S : Type 0} (g : Ghosts S) (day : ℤ) (u : State) (row : Fields) (f : Fault) (desk : DeskState S) → IsRowStopped g day u row f desk → IsRowCut day u row f (state g desk.held)
+row_cut : {S : Type 0} (g : Ghosts S) (day : ℤ) (u : State) (row : Fields) (f : Fault) (desk : DeskState S) → IsRowStopped g day u row f desk → IsRowCut day u row f (state g desk.connection)
 row_cut g day u row f desk (inl it) = inl (it.0, it.1.rows)
 row_cut g day u row f desk (inr it) = inr (it.0, it.1, it.2, it.3.1)
 
 cut : {S : Type 0} (g : Ghosts S) (day : ℤ) (text : Option (List ℕ)) (u : State) (rows : List Fields) (f : Fault) (desk : DeskState S)
     → (f ≡ fault.Memory) × ArePrefixRows text rows × IsAt g u desk ⊎ ((row : Fields) × AreSomeRows text (rows ++ row ∷ []) × IsRowStopped g day u row f desk)
-    → (f ≡ fault.Memory) × ArePrefixRows text rows × ContainsRows (rows_of u) (state g desk.held) ⊎ ((row : Fields) × AreSomeRows text (rows ++ row ∷ []) × IsRowCut day u row f (state g desk.held))
+    → (f ≡ fault.Memory) × ArePrefixRows text rows × ContainsRows (rows_of u) (state g desk.connection) ⊎ ((row : Fields) × AreSomeRows text (rows ++ row ∷ []) × IsRowCut day u row f (state g desk.connection))
 cut g day text u rows f desk (inl it) = inl (it.0, it.1, it.2.rows)
 cut g day text u rows f desk (inr it) = inr (it.0, it.1, row_cut g day u it.0 f desk it.2)
 
 module _ {S : Type 0} (g : Ghosts S) (day : ℤ) (text : Option (List ℕ)) (t : State) (desk : DeskState S) (written after : Option (List ℕ)) where
-  came : (x : Result ℕ ImportStop) → EndsImport g day t text x desk written after → AreImported day text x (state g desk.held) written after t
+  came : (x : Result ℕ ImportStop) → EndsImport g day t text x desk written after → AreImported day text x (state g desk.connection) written after t
   came (Ok refused) it = (it.0, it.1, it.2, it.3, record { done = it.4.done; saved = it.4.represents.rows; reported = it.4.reported }, it.5)
   came (Err import.Header) it = (it.0, it.1.rows, it.2)
   came (Err (import.Row number)) it = (it.0, it.1, it.2, it.3, record { done = it.4.done; saved = it.4.represents.rows; reported = it.4.reported }, it.5)
@@ -41,6 +41,6 @@ module _ {S : Type 0} (g : Ghosts S) (day : ℤ) (text : Option (List ℕ)) (t :
 
 -- an import ends as it was done
 pub imported : {S : Type 0} (g : Ghosts S) (day : ℤ) (text : Option (List ℕ)) (old desk : DeskState S) (written after : Option (List ℕ)) (x : Result ℕ ImportStop) (e : Exit) → e ≡ exit_of_import x
-    → ((t : State) → HasCleanDisk (state g desk.held) → IsAt g t old → EndsImport g day t text x desk written after)
-    → ImportsAt (λ P. (t : State) → HasCleanDisk (state g desk.held) → IsAt g t old → P t) day text (state g desk.held) written after e
+    → ((t : State) → HasCleanDisk (state g desk.connection) → IsAt g t old → EndsImport g day t text x desk written after)
+    → ImportsAt (λ P. (t : State) → HasCleanDisk (state g desk.connection) → IsAt g t old → P t) day text (state g desk.connection) written after e
 imported g day text old desk written after x e is did = (x, is, λ t clean represents. came g day text t desk written after x (did t clean represents))

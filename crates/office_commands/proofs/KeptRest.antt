@@ -15,13 +15,13 @@ use Rattle.office_commands.specs.Opening.{IsRestKept}
 
 module _ {S : Type 0} (g : Ghosts S) (conn : Held S) (desk : DeskState S) (it : Opens g conn desk) where
   -- the state at which the desk is
-  found_at : HasCleanDisk (state g desk.held) → IsOpenable (state g conn) → (s : State) × IsAt g s desk
+  found_at : HasCleanDisk (state g desk.connection) → IsOpenable (state g conn) → (s : State) × IsAt g s desk
   found_at clean (inl blank) = (empty_state, (it.finds clean).made blank)
   found_at clean (inr at) = let found = (it.finds clean).found at.0 at.1 in (found.0, found.2)
 
   -- by what spares it
-  pub kept_after : (after : DeskState S) → (HasCleanDisk (state g after.held) → HasCleanDisk (state g desk.held)) → FromEach g desk after (λ s. LeavesRestOf g desk after) → IsRestKept (state g conn) (state g after.held)
+  pub kept_after : (after : DeskState S) → (HasCleanDisk (state g after.connection) → HasCleanDisk (state g desk.connection)) → FromEach g desk after (λ s. LeavesRestOf g desk after) → IsRestKept (state g conn) (state g after.connection)
   kept_after after was_clean spares clean openable =
       let here = was_clean clean in
       let at = found_at here openable in
-      leaves_kept schema_version.Two (state g conn) (state g desk.held) (state g after.held) at.1.rows.rest ((it.finds here).rest openable) (spares at.0 clean at.1)
+      leaves_kept schema_version.Two (state g conn) (state g desk.connection) (state g after.connection) at.1.rows.rest ((it.finds here).rest openable) (spares at.0 clean at.1)

@@ -23,19 +23,19 @@ module _ {D : Type 0} {g : Ghosts D} where
   spares image files (left.Files now) seen only leaves = λ clean later may. only later (leaves clean later may)
   spares image files (left.Unopened now) seen only leaves = λ clean later may. subst (λ (i : Image). KeepsTables i later) seen (elim (leaves clean) [
     | inl nothing ↦ record {
-      held = λ trees held. absurd (is_something (image_of g files) trees (database_of _ trees held) nothing.0);
+      contained = λ trees contained. absurd (is_something (image_of g files) trees (database_of _ trees contained) nothing.0);
       none = λ none. elim (nothing.1 later may) [ inl was ↦ inl (subst IsNothing (sym (only later was ∙ sym seen)) none) | inr made ↦ made ];
     }
     | inr some ↦ record {
-      held = λ trees held. elim (some.4 later may).same [
-        | inl was ↦ subst (λ (i : Image). ContainTables i trees) (sym (only later was ∙ sym seen)) held
-        | inr stands ↦ stands_same (state_of now).page_size (image_of g files) later trees held some.1 some.3 stands
+      contained = λ trees contained. elim (some.4 later may).same [
+        | inl was ↦ subst (λ (i : Image). ContainTables i trees) (sym (only later was ∙ sym seen)) contained
+        | inr stands ↦ stands_same (state_of now).page_size (image_of g files) later trees contained some.1 some.3 stands
       ];
       none = λ none. absurd (some.0 none);
     }
   ])
   spares image files (left.Store now) seen only leaves = λ clean found may. subst (λ (i : Image). AreTablesIn i found) seen (record {
-    held = λ trees held. (leaves clean found may).1 trees (database_of _ trees held);
+    contained = λ trees contained. (leaves clean found may).1 trees (database_of _ trees contained);
     none = λ none. finds_nothing (image_of g files) found none (leaves clean found may).0;
   })
 

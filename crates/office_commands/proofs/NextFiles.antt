@@ -18,7 +18,7 @@ use Rattle.office_rules.specs.Rows.{rows_of}
 use Rattle.office_rules.specs.State.{State}
 use Rattle.office_store.specs.RepresentsRows.{RepresentsRowsIn}
 use Rattle.office_command_line.specs.Orders.{Command}
-use Rattle.office_commands.specs.Files.{HeldOffice, IsClosedCopy, IsLeftOf, IsUnclosed, IsUnopenedLeft, RunsInFiles, ServesInFiles}
+use Rattle.office_commands.specs.Files.{ContainedOffice, IsClosedCopy, IsLeftOf, IsUnclosed, IsUnopenedLeft, RunsInFiles, ServesInFiles}
 use Rattle.office_commands.specs.NextCommand.{ContainOffice, ContainWholeOffice, IsLeftBy, IsServedTo, LeavesAt, LeavesFilesAt, StaysOffice}
 use Rattle.office_life.specs.Tables.{ContainTables, IsOfficeAt}
 use Rattle.office_life.proofs.LeftTables.{database_of, leaves_tables}
@@ -31,7 +31,7 @@ use Rattle.office_commands.proofs.NextStates.{IsEnded, IsOneDatabase, StaySound,
 
 -- an office of which each page has its sum is one
 pub whole_office : (image : Image) (s : State) → ContainWholeOffice image s → ContainOffice image s
-whole_office image s it = record { trees = it.trees; held = ∥∥₁_map it.held (λ (h : ContainTables image it.trees). database_of image it.trees h); office = it.office }
+whole_office image s it = record { trees = it.trees; contained = ∥∥₁_map it.contained (λ (h : ContainTables image it.trees). database_of image it.trees h); office = it.office }
 
 module _ {D : Type 0} {g : Ghosts D} (old : Image) (s : State) (Is : State → Type 0) where
   -- ---- of files that were not opened
@@ -39,9 +39,9 @@ module _ {D : Type 0} {g : Ghosts D} (old : Image) (s : State) (Is : State → T
   stays_office : (rest : Leftover D g) → SparesTables old rest → ContainWholeOffice old s → StaysOffice s rest
   stays_office (leftover.Files it) spared whole = λ clean image may. subst (λ (i : Image). ContainWholeOffice i s) (sym (spared clean image may)) whole
   stays_office (leftover.Unopened it) spared whole = λ clean image may.
-      record { trees = whole.trees; held = ∥∥₁_map whole.held (λ (h : ContainTables old whole.trees). (spared clean image may).held whole.trees h); office = whole.office }
+      record { trees = whole.trees; contained = ∥∥₁_map whole.contained (λ (h : ContainTables old whole.trees). (spared clean image may).contained whole.trees h); office = whole.office }
   stays_office (leftover.Store it) spared whole = λ clean trees may.
-      subst (λ (t : Trees). IsOfficeAt t s) (sym (∥∥₁_elim whole.held (Trees-set _ _) (λ (h : ContainTables old whole.trees). (spared clean trees may).held whole.trees h))) whole.office
+      subst (λ (t : Trees). IsOfficeAt t s) (sym (∥∥₁_elim whole.contained (Trees-set _ _) (λ (h : ContainTables old whole.trees). (spared clean trees may).contained whole.trees h))) whole.office
 
   some_stays : (rest : Option (Leftover D g)) → IfSome rest (λ it. SparesTables old it) → (ContainWholeOffice old s → IfSome rest (λ it. StaysOffice s it))
   some_stays None spared = λ whole. tt
@@ -63,8 +63,8 @@ module _ {D : Type 0} {g : Ghosts D} (old : Image) (s : State) (Is : State → T
         let at = leaves copy.copied.was_clean trees (stays copy.copied.was_open) in (
           at.0,
           at.1,
-          record { trees = trees; held = copy.now; office = at.2 },
-          λ image may. record { trees = trees; held = copy.left image may; office = at.2 },
+          record { trees = trees; contained = copy.now; office = at.2 },
+          λ image may. record { trees = trees; contained = copy.left image may; office = at.2 },
         )
 
     unclosed_at : (store : FileStore D g) → IsUnclosed last store → LeavesFilesAt {g = g} old s Is (files.Unclosed store)
@@ -77,7 +77,7 @@ module _ {D : Type 0} {g : Ghosts D} (old : Image) (s : State) (Is : State → T
         let sound : AreDatabases (recovers store) = λ db left. let is = (at db left).2.office in (is.0, is.1.has.database) in
         ∥∥₁_map (leaves_tables store numbered sound image may) (λ (db : (x : Trees) × recovers store x × ContainTables image x).
         let is = at db.0 db.1 in
-        (is.0, is.1, record { trees = db.0; held = ∣ db.2 ∣₁; office = is.2 }))
+        (is.0, is.1, record { trees = db.0; contained = ∣ db.2 ∣₁; office = is.2 }))
 
     pub files_at : (left : FilesLeft D g) → IsLeftOf last left → LeavesFilesAt old s Is left
     files_at (files.Unopened rest) it = absurd it
@@ -90,10 +90,10 @@ pub command_leaves : IsOneDatabase → StaySound → IsEnded → {D : Type 0} {g
 command_leaves one stay ends image s order text written after exit left holds (inl none) = unopened_at image s (IsLeftBy order text written after exit s) left none.1
 command_leaves one stay ends image s order text written after exit left holds (inr (last, over, is_left)) =
     let ed = holds.office.schema_version in
-    let held : HeldOffice ed image holds.trees = record { held = holds.held; office = holds.office.office } in
+    let contained : ContainedOffice ed image holds.trees = record { contained = holds.contained; office = holds.office.office } in
     files_at image s (IsLeftBy order text written after exit s) last
     (λ clean.
-    let was = over.opened.rest clean ed holds.trees held in
+    let was = over.opened.rest clean ed holds.trees contained in
     command_left one stay ends over_files over.was last s clean holds.office.sound ed was.0 (subst (RepresentsRowsIn ed (rows_of s)) (sym was.1) holds.office.rows) order text written after exit over.ends)
     over.stays left is_left
 
@@ -103,9 +103,9 @@ pub service_leaves : IsOneDatabase → StaySound → IsEnded → {D : Type 0} {g
 service_leaves one stay ends image s port count written after exit left holds (inl none) = unopened_at image s (IsServedTo s) left none.1
 service_leaves one stay ends image s port count written after exit left holds (inr (last, over, is_left)) =
     let ed = holds.office.schema_version in
-    let held : HeldOffice ed image holds.trees = record { held = holds.held; office = holds.office.office } in
+    let contained : ContainedOffice ed image holds.trees = record { contained = holds.contained; office = holds.office.office } in
     files_at image s (IsServedTo s) last
     (λ clean.
-    let was = over.opened.rest clean ed holds.trees held in
+    let was = over.opened.rest clean ed holds.trees contained in
     service_left one stay ends over_files over.was last s clean holds.office.sound ed was.0 (subst (RepresentsRowsIn ed (rows_of s)) (sym was.1) holds.office.rows) port count written after exit over.ends)
     over.stays left is_left

@@ -66,20 +66,20 @@ module _ (stay : StaySound) (ends : IsEnded) (At : Trees → State → Type 0) (
 
   -- a desk that was served is at a state after acts; or it must be opened again, and a crash leaves such a state
   abbrev ServedAt : State → DeskState S → Type 0
-  ServedAt s d = ((u : State) × IsServedTo s u × IsAt g u d) ⊎ (IsTrue d.is_poisoned × LeftServed s d.held)
+  ServedAt s d = ((u : State) × IsServedTo s u × IsAt g u d) ⊎ (IsTrue d.is_poisoned × LeftServed s d.connection)
 
-  has_rows : (d : DeskState S) (u : State) → IsSound u → ContainsRows (rows_of u) (state g d.held) → (db : Trees) → (state g d.held).may_leave db → At db u
-  has_rows d u sound holds db may = office db u (at_rows (state g d.held) u sound holds db may)
+  has_rows : (d : DeskState S) (u : State) → IsSound u → ContainsRows (rows_of u) (state g d.connection) → (db : Trees) → (state g d.connection).may_leave db → At db u
+  has_rows d u sound holds db may = office db u (at_rows (state g d.connection) u sound holds db may)
 
   as_it_was : (s : State) (d : DeskState S) → IsAt g s d → ServedAt s d
   as_it_was s d represents = inl (s, ([], tt, refl), represents)
 
   -- a fault stopped it on the way from one state to another
-  stop_served : (s v w : State) → IsServedTo s v → IsServedTo s w → IsSound v → IsSound w → (f : Fault) (d : DeskState S) → StopsAt v.office f d → StopsLeaving v w f (state g d.held) → ServedAt s d
+  stop_served : (s v w : State) → IsServedTo s v → IsServedTo s w → IsSound v → IsSound w → (f : Fault) (d : DeskState S) → StopsAt v.office f d → StopsLeaving v w f (state g d.connection) → ServedAt s d
   stop_served s v w to_v to_w sv sw fault.Memory d stops left = inl (v, to_v, record { is_open = stops.1; office = stops.0; sound = sv; rows = left })
   stop_served s v w to_v to_w sv sw fault.Store d stops left = inr (
     stops,
-    λ db may. elim (at_stop (state g d.held) v w fault.Store sv sw left db may) [
+    λ db may. elim (at_stop (state g d.connection) v w fault.Store sv sw left db may) [
       | inl here ↦ (v, to_v, office db v here)
       | inr next ↦ (w, to_w, office db w next)
     ],
@@ -89,7 +89,7 @@ module _ (stay : StaySound) (ends : IsEnded) (At : Trees → State → Type 0) (
   stop_served s v w to_v to_w sv sw fault.Version d stops left = absurd stops
 
   module _ (t : State) (sound : IsSound t) (d : DeskState S) where
-    outcome_served : (done : List Act) (o : ActsOutcome) → ActsLead t done o d → ActsCameTo t done o (state g d.held) → ServedAt t d
+    outcome_served : (done : List Act) (o : ActsOutcome) → ActsLead t done o d → ActsCameTo t done o (state g d.connection) → ServedAt t d
     outcome_served done (all_done replies) leads it = inl (after_acts t done, (done, it.formed, refl), record { is_open = leads.1; office = leads.0; sound = it.leaves.sound; rows = it.leaves.rows })
     outcome_served done (stopped replies f) leads it =
         let n = length replies in
@@ -143,47 +143,47 @@ module _ (stay : StaySound) (ends : IsEnded) (At : Trees → State → Type 0) (
     after_served t d to (inl (u, more, represents)) = inl (u, further s t u to more, represents)
     after_served t d to (inr (gone, leaves)) = inr (gone, λ db may. let at = leaves db may in (at.0, further s t at.0 to at.1, at.2))
 
-    turn_served : (status : Result ℕ Io) (old new : DeskState S) → Turn g status old new → HasCleanDisk (state g new.held) → ServedAt s old → ServedAt s new
+    turn_served : (status : Result ℕ Io) (old new : DeskState S) → Turn g status old new → HasCleanDisk (state g new.connection) → ServedAt s old → ServedAt s new
     turn_served status old new (inl failed) clean at = subst (ServedAt s) (sym failed.1) at
     turn_served status old new (inr visited) clean (inl (t, to, represents)) =
         let left = visited.call.did t clean represents in
         after_served t new to (left_served t represents.sound new left)
     turn_served status old new (inr visited) clean (inr (gone, leaves)) = subst (ServedAt s) (sym (visited.kept gone)) (inr (gone, leaves))
 
-    turns_served : (n : ℕ) (failed ended : Bool) (old new : DeskState S) → Turns g n failed ended old new → HasCleanDisk (state g new.held) → ServedAt s old → ServedAt s new
+    turns_served : (n : ℕ) (failed ended : Bool) (old new : DeskState S) → Turns g n failed ended old new → HasCleanDisk (state g new.connection) → ServedAt s old → ServedAt s new
     unfolding Turns
     turns_served zero failed ended old new turns clean at = subst (ServedAt s) (sym turns.2) at
     turns_served (suc n) failed ended old new (m, earlier, status, turns, turn, ended_so, is) clean at =
         turn_served status m new turn clean (turns_served n earlier false old m turns (clean_turn g status m new turn clean) at)
 
-    left_at : (d : DeskState S) → ServedAt s d → LeftServed s d.held
+    left_at : (d : DeskState S) → ServedAt s d → LeftServed s d.connection
     left_at d (inl (u, to, represents)) db may = (u, to, has_rows d u represents.sound represents.rows db may)
     left_at d (inr (gone, leaves)) db may = leaves db may
 
 -- ---- a service
 
 module _ (stay : StaySound) (ends : IsEnded) (At : Trees → State → Type 0) (office : (db : Trees) (u : State) → IsOfficeAt db u → At db u) {S : Type 0} (g : Ghosts S) (old new : Held S) (s : State) (clean : HasCleanDisk (state g new))
-    (desk_at : (desk : DeskState S) → HasCleanDisk (state g desk.held) → IsDeskOf g old desk → IsAt g s desk) (at_unopened : (f : Fault) → OfficeOpenFailed f (state g old) (state g new) → (db : Trees) → (state g new).may_leave db → At db s) where
+    (desk_at : (desk : DeskState S) → HasCleanDisk (state g desk.connection) → IsDeskOf g old desk → IsAt g s desk) (at_unopened : (f : Fault) → OfficeOpenFailed f (state g old) (state g new) → (db : Trees) → (state g new).may_leave db → At db s) where
   abbrev served : DeskState S → Type 0
   served d = ServedAt stay ends At office g s d
 
-  closed_so : (last : DeskState S) → new ≡ last.held → served last → LeftServed stay ends At office g s new
+  closed_so : (last : DeskState S) → new ≡ last.connection → served last → LeftServed stay ends At office g s new
   closed_so last same at = subst (LeftServed stay ends At office g s) (sym same) (left_at stay ends At office g s last at)
 
   pub service_so : (port count : ℕ) (written after : Option (List ℕ)) (exit : Exit) → ServiceEnds g port count old new written after exit → LeftServed stay ends At office g s new
   service_so port count written after exit (inl none) = λ db may. (s, ([], tt, refl), at_unopened none.0 none.2 db may)
   service_so port count written after exit (inr (first, last, of, inl it, same)) =
-      let clean_last : HasCleanDisk (state g last.held) = subst (λ (h : Held S). HasCleanDisk (state g h)) same clean in
-      let at = desk_at first (subst (λ (d : DeskState S). HasCleanDisk (state g d.held)) it.1 clean_last) of in
+      let clean_last : HasCleanDisk (state g last.connection) = subst (λ (h : Held S). HasCleanDisk (state g h)) same clean in
+      let at = desk_at first (subst (λ (d : DeskState S). HasCleanDisk (state g d.connection)) it.1 clean_last) of in
       closed_so last same (subst (λ (d : DeskState S). served d) (sym it.1) (as_it_was stay ends At office g s first at))
   service_so port count written after exit (inr (first, last, of, inr (n, failed, ended, reported, turns, few, all, is), same)) =
-      let clean_last : HasCleanDisk (state g last.held) = subst (λ (h : Held S). HasCleanDisk (state g h)) same clean in
+      let clean_last : HasCleanDisk (state g last.connection) = subst (λ (h : Held S). HasCleanDisk (state g h)) same clean in
       let at = desk_at first (clean_turns g n failed ended first last turns clean_last) of in
       closed_so last same (turns_served stay ends At office g s n failed ended first last turns clean_last (as_it_was stay ends At office g s first at))
 
 module _ (one : IsOneDatabase) (stay : StaySound) (ends : IsEnded) {S : Type 0} (g : Ghosts S) (old new : Held S) (s : State) (clean : HasCleanDisk (state g new)) (sound : IsSound s) where
   -- the desk that was opened is at the state at which the office was
-  pub desk_at : (ed : SchemaVersion) → IsAtRestOver ed (state g old) → RepresentsRowsIn ed (rows_of s) (state g old).now.trees → (desk : DeskState S) → HasCleanDisk (state g desk.held) → IsDeskOf g old desk → IsAt g s desk
+  pub desk_at : (ed : SchemaVersion) → IsAtRestOver ed (state g old) → RepresentsRowsIn ed (rows_of s) (state g old).now.trees → (desk : DeskState S) → HasCleanDisk (state g desk.connection) → IsDeskOf g old desk → IsAt g s desk
   desk_at ed rest rows desk clean_desk of =
       let m = of.opened.found ed clean_desk rest in
       subst (λ (t : State). IsAt g t desk) (found_same one stay ends (state g old) (state g new) s clean sound ed m.0 rows m.1) m.2

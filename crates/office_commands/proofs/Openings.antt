@@ -22,10 +22,10 @@ pub opened_from :
     → IsOpenedFrom image was last
 opened_from image was last clean opened found only stays = record {
   found = λ so. let it = opened (clean so) in let at = found (clean so) in rw (same_trees (file_state was) it.0 it.1 (only it.0.is_open) (stays it.0.is_open)) at.reads;
-  holds = λ so trees held. let it = opened (clean so) in same_trees (file_state was) it.0 it.1 (only it.0.is_open) (stays it.0.is_open) ∙ (found (clean so)).holds trees held;
-  rest = λ so ed trees held.
+  holds = λ so trees contained. let it = opened (clean so) in same_trees (file_state was) it.0 it.1 (only it.0.is_open) (stays it.0.is_open) ∙ (found (clean so)).holds trees contained;
+  rest = λ so ed trees contained.
       let it = opened (clean so) in
       let at = found (clean so) in
-      rests (file_state was) it.0 it.1 (only it.0.is_open) (stays it.0.is_open) ed trees (∥∥₁_elim held.held (Trees-set _ _) (at.holds trees)) held.office;
+      rests (file_state was) it.0 it.1 (only it.0.is_open) (stays it.0.is_open) ed trees (∥∥₁_elim contained.contained (Trees-set _ _) (at.holds trees)) contained.office;
   blank = λ so. let it = opened (clean so) in blanks (file_state was) it.0 it.1 (only it.0.is_open) (stays it.0.is_open);
 }

@@ -28,8 +28,8 @@ use Rattle.office_commands.specs.declared.office_files.FilesLeft.{FilesLeft}
 use Rattle.office_commands.specs.declared.office_files.FilesLeft.TheVariants as files
 
 -- the two files held this database, which has the office's tables of that version, beside whatever else
-pub record HeldOffice (ed : SchemaVersion) (image : Image) (trees : Trees) : Type 0 where
-  pub held : ∥ HoldsDatabase image trees ∥₁
+pub record ContainedOffice (ed : SchemaVersion) (image : Image) (trees : Trees) : Type 0 where
+  pub contained : ∥ HoldsDatabase image trees ∥₁
   pub office : IsOfficeIn ed trees
 
 -- whatever tables a crash leaves, they are an office's, of one version or the other
@@ -42,7 +42,7 @@ pub record IsOpenedFrom {D : Type 0} {g : Ghosts D} (image : Image) (was last : 
   pub found : HasCleanDisk (file_state last) → AreFoundIn image (file_state was).now.trees
   pub holds : HasCleanDisk (file_state last) → (trees : Trees) → HoldsDatabase image trees
       → (file_state was).now.trees ≡ trees
-  pub rest : HasCleanDisk (file_state last) → (ed : SchemaVersion) (trees : Trees) → HeldOffice ed image trees
+  pub rest : HasCleanDisk (file_state last) → (ed : SchemaVersion) (trees : Trees) → ContainedOffice ed image trees
       → IsAtRestOver ed (file_state was) × ((file_state was).now.trees ≡ trees)
   pub blank : HasCleanDisk (file_state last) → IsEmpty (file_state was).now.trees → IsBlank (file_state was)
 

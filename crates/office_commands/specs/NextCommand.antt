@@ -37,13 +37,13 @@ use Rattle.office_commands.specs.declared.office_files.FilesLeft.TheVariants as 
 -- the two files hold an office at this state
 pub record ContainOffice (image : Image) (u : State) : Type 0 where
   pub trees : Trees
-  pub held : ∥ HoldsDatabase image trees ∥₁
+  pub contained : ∥ HoldsDatabase image trees ∥₁
   pub office : IsOfficeAt trees u
 
 -- and where the file has sums, each page has its sum
 pub record ContainWholeOffice (image : Image) (u : State) : Type 0 where
   pub trees : Trees
-  pub held : ∥ ContainTables image trees ∥₁
+  pub contained : ∥ ContainTables image trees ∥₁
   pub office : IsOfficeAt trees u
 
 -- whatever a crash leaves, it is an office at a state of this kind

@@ -14,7 +14,7 @@ use Rattle.office_sql.specs.declared.schema_versions.SchemaVersion.{SchemaVersio
 use Rattle.office_sql.specs.Office.{IsOfficeIn}
 use Rattle.office_rules.specs.State.{State}
 use Rattle.office_command_line.specs.Orders.{Command}
-use Rattle.office_commands.specs.Files.{HeldOffice, IsLeftOf, LeavesAnOffice, RunsInFiles, ServesInFiles}
+use Rattle.office_commands.specs.Files.{ContainedOffice, IsLeftOf, LeavesAnOffice, RunsInFiles, ServesInFiles}
 use Rattle.office_commands.specs.NextCommand.{ContainOffice, ContainWholeOffice, IsLeftBy, IsServedTo, LeavesFilesAt}
 use Rattle.office_commands.specs.declared.exit.Exit.{Exit}
 use Rattle.office_commands.specs.declared.office_files.FilesLeft.{FilesLeft}
@@ -22,8 +22,8 @@ use Rattle.office_commands.specs.declared.office_files.FilesLeft.TheVariants as 
 
 -- two files hold these tables of an office, as they read now and after any crash
 pub record KeepOffice {D : Type 0} (g : Ghosts D) (ed : SchemaVersion) (it : Files D) (trees : Trees) : Type 0 where
-  pub now : HeldOffice ed (image_of g it) trees
-  pub after_a_crash : (image : Image) → outcomes g it.log it.db image → HeldOffice ed image trees
+  pub now : ContainedOffice ed (image_of g it) trees
+  pub after_a_crash : (image : Image) → outcomes g it.log it.db image → ContainedOffice ed image trees
 
 -- a connection whose last commit is an office's was closed: its files hold that office
 abbrev pub ClosedFilesKeepOffice : {D : Type 0} → Ghosts D → Type 0
@@ -37,7 +37,7 @@ ClosedFilesKeepOffice {D} g =
 abbrev pub CrashContainsOffice : {D : Type 0} {g : Ghosts D} → Held (FileStore D g) → Type 0
 CrashContainsOffice last =
     LeavesAnOffice (file_state last) → (left : Image) → (store_state last.store).may_leave left
-    → ∥ ((trees : Trees) × (ed : SchemaVersion) × (file_state last).may_leave trees × HeldOffice ed left trees) ∥₁
+    → ∥ ((trees : Trees) × (ed : SchemaVersion) × (file_state last).may_leave trees × ContainedOffice ed left trees) ∥₁
 
 -- over files that hold an office at a state a command was run: they hold one at a state at which the command leaves it
 abbrev pub CommandLeavesOffice : {D : Type 0} → Ghosts D → Type 0

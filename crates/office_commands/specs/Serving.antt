@@ -15,7 +15,7 @@ use Rattle.office_commands.specs.Running.{listening_line}
 -- a desk was opened over a connection, at the state with which the office was opened
 pub record IsDeskOf {S : Type 0} (g : Ghosts S) (conn : Held S) (desk : DeskState S) : Type 0 where
   pub is_open : desk.is_poisoned ≡ false
-  pub opened : FromOpened (state g conn) (state g desk.held) (λ t. IsAt g t desk)
+  pub opened : FromOpened (state g conn) (state g desk.connection) (λ t. IsAt g t desk)
 
 -- a desk was served, by the exit: where it listens was not reported, and nothing is served; or connections were, one
 -- after another, as many as were asked for or fewer where the desk was poisoned
@@ -32,4 +32,4 @@ abbrev pub ServiceEnds : {S : Type 0} → Ghosts S → ℕ → ℕ → Held S �
 ServiceEnds {S} g port count old new written after exit =
     EndsOpenFailed (state g old) (state g new) written after exit
     ⊎ ((first last : DeskState S) × IsDeskOf g old first × ServesAt g port count first last written after exit
-    × (new ≡ last.held))
+    × (new ≡ last.connection))

@@ -19,12 +19,12 @@ IsNoneYet image = IsNothing image ⊎ ∥ ((tables : Trees) × HoldsDatabase ima
 
 -- the files hold the tables that they held; if they held no database, they hold none yet
 pub record KeepsTables (before after : Image) : Type 0 where
-  pub held : (tables : Trees) → ContainTables before tables → ContainTables after tables
+  pub contained : (tables : Trees) → ContainTables before tables → ContainTables after tables
   pub none : IsNothing before → IsNoneYet after
 
 -- these are the tables that the files hold; if they hold no database, these are empty
 pub record AreTablesIn (image : Image) (found : Trees) : Type 0 where
-  pub held : (tables : Trees) → ContainTables image tables → found ≡ tables
+  pub contained : (tables : Trees) → ContainTables image tables → found ≡ tables
   pub none : IsNothing image → IsEmpty found
 
 -- what is left of files that held this and were not opened: whatever a crash leaves of them is what they held, or holds

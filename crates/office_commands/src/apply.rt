@@ -17,7 +17,7 @@ use std::io::{Read, Write};
 fn apply_at<W: Write, S: Alter>(alloc: Global, desk: &mut Desk<S>, text: &[u8], out: &mut W) -> Exit
     requires { desk.old.is_poisoned ≡ false }
     ensures done { Applies (FromEach S.Store desk.old desk.new) text.now
-        (state S.Store desk.new.held) (W.contents out.old) (W.contents out.new) result }
+        (state S.Store desk.new.connection) (W.contents out.old) (W.contents out.new) result }
     ensures rest { SparesTheRest S.Store desk.old desk.new }
 {
     match read_acts(alloc, text) {

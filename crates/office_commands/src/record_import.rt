@@ -42,12 +42,12 @@ fn import_at<R: Read, W: Write, S: Alter>(
     out: &mut W,
 ) -> Exit
     ensures done { ImportsAt (FromEach S.Store desk.old desk.new) day
-        (option_map strip_bom (R.remaining input.old)) (state S.Store desk.new.held)
+        (option_map strip_bom (R.remaining input.old)) (state S.Store desk.new.connection)
         (W.contents out.old) (W.contents out.new) result }
-    ensures clean { HasCleanDisk (state S.Store desk.new.held)
-        → HasCleanDisk (state S.Store desk.old.held) }
-    ensures shield { (state S.Store desk.old.held).IsShielded
-        → (state S.Store desk.new.held).IsShielded }
+    ensures clean { HasCleanDisk (state S.Store desk.new.connection)
+        → HasCleanDisk (state S.Store desk.old.connection) }
+    ensures shield { (state S.Store desk.old.connection).IsShielded
+        → (state S.Store desk.new.connection).IsShielded }
 {
     Exit::from(import_records(alloc, desk, day, input, out))
 }

@@ -63,7 +63,7 @@ fn report_answer<W: Write>(answer: Answer, out: &mut W) -> Exit
 /// Resumes the open run at a desk that is open.
 fn resume_at<W: Write, S: Alter>(desk: &mut Desk<S>, out: &mut W) -> Exit
     requires { desk.old.is_poisoned ≡ false }
-    ensures done { Resumes (FromEach S.Store desk.old desk.new) (state S.Store desk.new.held)
+    ensures done { Resumes (FromEach S.Store desk.old desk.new) (state S.Store desk.new.connection)
         (W.contents out.old) (W.contents out.new) result }
     ensures rest { SparesTheRest S.Store desk.old desk.new }
 {

@@ -42,7 +42,7 @@ module _ (reported : AreFatesReported) {S : Type 0} (g : Ghosts S) (s : State) (
       left = λ a. (at a).rows;
     };
     offices = λ a. offices_representing g s desk (at a);
-    fates = λ a. fates_after reported s acts (at a).sound 0 (state g desk.held) (omega arith) (at a).rows;
+    fates = λ a. fates_after reported s acts (at a).sound 0 (state g desk.connection) (omega arith) (at a).rows;
     midway = λ begun run all is_run m a. leaves_representing g begun s run desk m (at a);
   }
 
@@ -52,7 +52,7 @@ module _ (reported : AreFatesReported) {S : Type 0} (g : Ghosts S) (s : State) (
     formed = formed;
     ends = it;
     offices = λ a. offices_representing g (after s acts) new (it.represents a);
-    fates = λ a. fates_done reported s acts (at a).sound (state g new.held) (it.represents a).rows;
+    fates = λ a. fates_done reported s acts (at a).sound (state g new.connection) (it.represents a).rows;
     midway = λ begun run all is_run m a. midway_left g (Ok x) begun s run acts new on all is_run m (it.represents a) tt;
   }
   performed {T} on (Err f) given found old new formed at it =
@@ -60,8 +60,8 @@ module _ (reported : AreFatesReported) {S : Type 0} (g : Ghosts S) (s : State) (
       record {
         formed = formed;
         ends = it;
-        offices = λ a. offices_stopped (after s (take it.count acts)) (after s (take (it.count + 1) acts)) f (state g new.held) (it.left a);
-        fates = λ a. fates_at reported s acts (at a).sound it.count f (state g new.held) it.prefix.within (one_left f it.count acts it.prefix.one_more) (it.left a);
+        offices = λ a. offices_stopped (after s (take it.count acts)) (after s (take (it.count + 1) acts)) f (state g new.connection) (it.left a);
+        fates = λ a. fates_at reported s acts (at a).sound it.count f (state g new.connection) it.prefix.within (one_left f it.count acts it.prefix.one_more) (it.left a);
         midway = λ begun run all is_run m a. midway_left g r begun s run acts new on all is_run m tt (it.count, it.left a);
       }
 
@@ -76,7 +76,7 @@ one_answered g s a Pre (Err f) old new formed same it = record {
 }
 
 module _ (reported : AreFatesReported) (on : GoesOn) {S : Type 0} (g : Ghosts S) (s : State) (a : Act) (Pre : Type 0) where
-  pub one_came : (result : Result Answer Fault) (old new : DeskState S) → IsWellFormedAct a → IsAt g s old → EndAct g s a result old new Pre → Pre → ActsCameTo s (a ∷ []) (act_outcome result) (state g new.held)
+  pub one_came : (result : Result Answer Fault) (old new : DeskState S) → IsWellFormedAct a → IsAt g s old → EndAct g s a result old new Pre → Pre → ActsCameTo s (a ∷ []) (act_outcome result) (state g new.connection)
   one_came (Ok answer) old new formed at it here =
       let r : Result Answer Fault = Ok answer in
       let there = it.represents here in
@@ -86,7 +86,7 @@ module _ (reported : AreFatesReported) (on : GoesOn) {S : Type 0} (g : Ghosts S)
         answered = ap (λ (told : Answer). told ∷ []) it.answered;
         leaves = record { sound = there.sound; rows = there.rows };
         offices = offices_representing g (step s a).1 new there;
-        fates = fates_done reported s (a ∷ []) at.sound (state g new.held) there.rows;
+        fates = fates_done reported s (a ∷ []) at.sound (state g new.connection) there.rows;
         midway = λ begun run is is_run m. midway_left g r begun s run (a ∷ []) new on is is_run m there tt;
       }
   one_came (Err f) old new formed at it here =
@@ -96,8 +96,8 @@ module _ (reported : AreFatesReported) (on : GoesOn) {S : Type 0} (g : Ghosts S)
         fits = (omega arith, inl (omega arith));
         answered = refl;
         leaves = it.left here;
-        offices = offices_stopped s (step s a).1 f (state g new.held) (it.left here);
-        fates = fates_at reported s (a ∷ []) at.sound 0 f (state g new.held) (omega arith) (λ _. omega arith) (it.left here);
+        offices = offices_stopped s (step s a).1 f (state g new.connection) (it.left here);
+        fates = fates_at reported s (a ∷ []) at.sound 0 f (state g new.connection) (omega arith) (λ _. omega arith) (it.left here);
         midway = λ begun run is is_run m. midway_left g r begun s run (a ∷ []) new on is is_run m tt (0, it.left here);
       }
 
@@ -157,6 +157,6 @@ module _ (on : GoesOn) (closes : Closes) {S : Type 0} (g : Ghosts S) (s : State)
           whole = λ still. absurd (still f refl);
           midway = λ begun run is m. midway_resumed g r begun s run new on is m tt (it.count, left);
           none = λ none. none_resumed g r s new none tt (it.count, left);
-          offices = offices_stopped (after_steps s it.count) (after_steps s (suc it.count)) f (state g new.held) left;
+          offices = offices_stopped (after_steps s it.count) (after_steps s (suc it.count)) f (state g new.connection) left;
           fates = fates_resumed reported g s new r old at tt (it.count, left);
         }

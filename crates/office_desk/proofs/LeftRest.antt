@@ -16,16 +16,16 @@ use Rattle.office_desk.specs.Opening.{LeavesRest}
 
 -- where nothing was done
 pub rest_here : {S : Type 0} (g : Ghosts S) (s : State) (d : DeskState S) → IsAt g s d → LeavesRestOf g d d
-rest_here g s d represents = leaves_at_rest schema_version.Two (SparesRest (state g d.held).now) (state g d.held) represents.rows.rest (spares_none (state g d.held).now)
+rest_here g s d represents = leaves_at_rest schema_version.Two (SparesRest (state g d.connection).now) (state g d.connection) represents.rows.rest (spares_none (state g d.connection).now)
 
 -- one call after another
 pub rest_then : {S : Type 0} (g : Ghosts S) (t : State) (old mid new : DeskState S) → IsAt g t mid → LeavesRestOf g old mid → LeavesRestOf g mid new → LeavesRestOf g old new
-rest_then g t old mid new represents = leaves_then schema_version.Two (state g old.held) (state g mid.held) (state g new.held) represents.rows.rest
+rest_then g t old mid new represents = leaves_then schema_version.Two (state g old.connection) (state g mid.connection) (state g new.connection) represents.rows.rest
 
 -- where a crash leaves no more than it left
-pub rest_read : {S : Type 0} (g : Ghosts S) (s : State) (old new : DeskState S) → IsAt g s old → LeavesLess (state g old.held) (state g new.held) → LeavesRestOf g old new
+pub rest_read : {S : Type 0} (g : Ghosts S) (s : State) (old new : DeskState S) → IsAt g s old → LeavesLess (state g old.connection) (state g new.connection) → LeavesRestOf g old new
 rest_read g s old new represents less db may =
-    leaves_one (SparesRest (state g old.held).now) (state g old.held).now db represents.rows.rest.office.has.database (spares_none (state g old.held).now) (represents.rows.rest.only db (less db may))
+    leaves_one (SparesRest (state g old.connection).now) (state g old.connection).now db represents.rows.rest.office.has.database (spares_none (state g old.connection).now) (represents.rows.rest.only db (less db may))
 
 pub rest_less : (ed : SchemaVersion) (old new : sqlite.State) → IsAtRestOver ed old → LeavesLess old new → LeavesRest old new
 rest_less ed old new rest less db may =

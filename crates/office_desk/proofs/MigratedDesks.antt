@@ -27,22 +27,22 @@ use Rattle.office_desk.proofs.Opened.{both, none_of_blank}
 
 module _ {S : Type 0} (g : Ghosts S) (machine : Office) (store : Held S) where
   -- whose tables are not of version 1
-  pub over_store : (desk : DeskState S) → desk.is_poisoned ≡ false → desk.office ≡ machine → desk.held ≡ store → (IsAtRestOver schema_version.One (state g store) → ⊥) → MigratedDesk g machine store desk
-  over_store desk still office held other = record {
+  pub over_store : (desk : DeskState S) → desk.is_poisoned ≡ false → desk.office ≡ machine → desk.connection ≡ store → (IsAtRestOver schema_version.One (state g store) → ⊥) → MigratedDesk g machine store desk
+  over_store desk still office connection other = record {
     is_open = still;
     office = office;
-    same = λ rest. held;
-    migrated = record { faults = tt; clean = subst (λ h. HasCleanDisk (state g h)) held; shield = subst (λ h. (state g h).IsShielded) (sym held); moved = λ s clean holds. absurd (other holds.rest) };
+    same = λ rest. connection;
+    migrated = record { faults = tt; clean = subst (λ h. HasCleanDisk (state g h)) connection; shield = subst (λ h. (state g h).IsShielded) (sym connection); moved = λ s clean holds. absurd (other holds.rest) };
   }
 
   -- whose tables were made those of version 2
-  pub over_moved : (new : Held S) (desk : DeskState S) → desk.is_poisoned ≡ false → desk.office ≡ machine → desk.held ≡ new → (IsAtRest (state g store) → ⊥) → Migrated {X = Unit {0}} (state g store) (state g new) (Ok tt)
+  pub over_moved : (new : Held S) (desk : DeskState S) → desk.is_poisoned ≡ false → desk.office ≡ machine → desk.connection ≡ new → (IsAtRest (state g store) → ⊥) → Migrated {X = Unit {0}} (state g store) (state g new) (Ok tt)
       → MigratedDesk g machine store desk
-  over_moved new desk still office held only it = record {
+  over_moved new desk still office connection only it = record {
     is_open = still;
     office = office;
     same = λ rest. absurd (only rest);
-    migrated = subst (λ h. Migrated {X = Unit {0}} (state g store) (state g h) (Ok tt)) (sym held) it;
+    migrated = subst (λ h. Migrated {X = Unit {0}} (state g store) (state g h) (Ok tt)) (sym connection) it;
   }
 
 -- whose tables were not
@@ -93,8 +93,8 @@ module _ {S : Type 0} (g : Ghosts S) (conn : Held S) (there : has_office_table (
     holds_old : (s : State) → RepresentIn schema_version.One (state g conn).now.trees s → IsAtRestOver schema_version.One (state g store) → (state g store).now ≡ (state g conn).now → ContainsOldRows (rows_of s) (state g store)
     holds_old s represents rest same = record { rest = rest; represents = subst (λ (d : Database). OldRepresentsRows (rows_of s) d.trees) (sym same) represents.rows }
 
-    module _ (desk : DeskState S) (up : MigratedDesk g machine store desk) (disk : HasCleanDisk (state g desk.held)) where
-      same_up : IsAtRest (state g conn) → (state g desk.held).now ≡ (state g conn).now
+    module _ (desk : DeskState S) (up : MigratedDesk g machine store desk) (disk : HasCleanDisk (state g desk.connection)) where
+      same_up : IsAtRest (state g conn) → (state g desk.connection).now ≡ (state g conn).now
       same_up rest =
           let at = taken.found schema_version.Two (up.migrated.clean disk) rest in
           ap (λ (h : Held S). (state g h).now) (up.same at.3) ∙ at.4
@@ -115,10 +115,10 @@ module _ {S : Type 0} (g : Ghosts S) (conn : Held S) (there : has_office_table (
             },
           )
 
-      rest_up : (ed : SchemaVersion) → IsAtRestOver ed (state g conn) → LeavesRest (state g conn) (state g desk.held)
+      rest_up : (ed : SchemaVersion) → IsAtRestOver ed (state g conn) → LeavesRest (state g conn) (state g desk.connection)
       rest_up schema_version.One rest =
           let at = taken.found schema_version.One (up.migrated.clean disk) rest in
-          subst (λ (d : Database). Leaves (KeepsRest d) (state g desk.held)) at.4 (up.migrated.moved at.0 disk (holds_old at.0 at.1 at.3 at.4)).rest
+          subst (λ (d : Database). Leaves (KeepsRest d) (state g desk.connection)) at.4 (up.migrated.moved at.0 disk (holds_old at.0 at.1 at.3 at.4)).rest
       rest_up schema_version.Two rest =
           let at = taken.found schema_version.Two (up.migrated.clean disk) rest in
           subst (λ (h : Held S). LeavesRest (state g conn) (state g h)) (sym (up.same at.3)) (rest_same schema_version.Two (state g conn) (state g store) at.4 at.3)

@@ -40,7 +40,7 @@ module _ {S : Type 0} (g : Ghosts S) (s : State) (acts : List Act) (given found 
         leads = subst (λ (k : ℕ). StopsAt (after s (take k acts)).office f new) same it.ends.stops;
       }
 
-  pub came_to : (result : Result (Unit {0}) Fault) (new : DeskState S) (Pre : Type 0) → Performed g s acts given found result new Pre → Pre → ActsCameTo s acts (acts_outcome result given found) (state g new.held)
+  pub came_to : (result : Result (Unit {0}) Fault) (new : DeskState S) (Pre : Type 0) → Performed g s acts given found result new Pre → Pre → ActsCameTo s acts (acts_outcome result given found) (state g new.connection)
   came_to (Ok x) new Pre it at =
       let there = it.ends.represents at in
       record { formed = it.formed; fits = tt; answered = follows given found _ it.ends.answered; leaves = record { sound = there.sound; rows = there.rows }; offices = it.offices at; fates = it.fates at; midway = λ begun run all is_run m. it.midway begun run all is_run m at }
@@ -50,7 +50,7 @@ module _ {S : Type 0} (g : Ghosts S) (s : State) (acts : List Act) (given found 
         formed = it.formed;
         fits = answered.fits;
         answered = follows given found _ answered.added;
-        leaves = subst (λ (k : ℕ). StopsLeaving (after s (take k acts)) (after s (take (k + 1) acts)) f (state g new.held)) (counted s acts given found it.ends.count it.ends.prefix.within it.ends.prefix.answered) (it.ends.left at);
+        leaves = subst (λ (k : ℕ). StopsLeaving (after s (take k acts)) (after s (take (k + 1) acts)) f (state g new.connection)) (counted s acts given found it.ends.count it.ends.prefix.within it.ends.prefix.answered) (it.ends.left at);
         offices = it.offices at;
         fates = it.fates at;
         midway = λ begun run all is_run m. it.midway begun run all is_run m at;

@@ -58,9 +58,9 @@ module _ (acts : List Act) (i : ℕ) (a : Act) (within : i < length acts) (is : 
 pub stops_reopen : {S : Type 0} (office : Office) (f : Fault) (d : DeskState S) → f ≡ fault.Reopen → IsTrue d.is_poisoned → StopsAt office f d
 stops_reopen office f d is gone = subst (λ (it : Fault). StopsAt office it d) (sym is) gone
 
-pub leaves_reopen : {S : Type 0} (g : Ghosts S) (s next : State) (f : Fault) (done d : DeskState S) → f ≡ fault.Reopen → d.held ≡ done.held → IsAt g next done → StopsLeaving s next f (state g d.held)
-leaves_reopen g s next f done d is held represents =
-    subst (λ (it : Fault). StopsLeaving s next it (state g d.held)) (sym is) (subst (λ it. ContainsRows (rows_of next) (state g it)) (sym held) represents.rows)
+pub leaves_reopen : {S : Type 0} (g : Ghosts S) (s next : State) (f : Fault) (done d : DeskState S) → f ≡ fault.Reopen → d.connection ≡ done.connection → IsAt g next done → StopsLeaving s next f (state g d.connection)
+leaves_reopen g s next f done d is connection represents =
+    subst (λ (it : Fault). StopsLeaving s next it (state g d.connection)) (sym is) (subst (λ it. ContainsRows (rows_of next) (state g it)) (sym connection) represents.rows)
 
 -- ---- what was called so far, and one more
 
@@ -71,8 +71,8 @@ CalledPrefix g old new acts given found = Called g old new (λ s Pre. AreDone g 
 module _ (acts : List Act) (i : ℕ) (a : Act) (within : i < length acts) (is : a ≡ get_or acts i a) {S : Type 0} (g : Ghosts S) (old mid : DeskState S) (given before : List Answer)
     (so_far : CalledPrefix g old mid (take i acts) given before) where
   -- what the next call leaves of the rest of the file
-  rest_next : (new : DeskState S) → (HasCleanDisk (state g new.held) → HasCleanDisk (state g mid.held)) → (s : State) → HasCleanDisk (state g new.held) → IsAt g s old
-      → (HasCleanDisk (state g new.held) → IsAt g (after s (take i acts)) mid → LeavesRestOf g mid new) → LeavesRestOf g old new
+  rest_next : (new : DeskState S) → (HasCleanDisk (state g new.connection) → HasCleanDisk (state g mid.connection)) → (s : State) → HasCleanDisk (state g new.connection) → IsAt g s old
+      → (HasCleanDisk (state g new.connection) → IsAt g (after s (take i acts)) mid → LeavesRestOf g mid new) → LeavesRestOf g old new
   rest_next new early s clean at next =
       let represents = (so_far.did s at.is_open (sym at.office)).represents (early clean, at) in
       rest_then g (after s (take i acts)) old mid new represents (so_far.rest s (early clean) at) (next clean represents)
@@ -109,20 +109,20 @@ module _ (acts : List Act) (i : ℕ) (a : Act) (within : i < length acts) (is : 
           prefix = record { within = low; one_more = inl within; answered = so.answered };
           stops = subst (λ (o : Office). StopsAt o f new) so.office it.stops;
           left = λ at.
-              subst (λ (t : State). StopsLeaving (after s (take i acts)) t f (state g new.held)) (sym (after_next acts i a within is s))
+              subst (λ (t : State). StopsLeaving (after s (take i acts)) t f (state g new.connection)) (sym (after_next acts i a within is s))
               (it.left (at.0, so.represents (one.clean at.0, at.1)));
         };
     rest = λ s clean at. rest_next new one.clean s clean at (one.rest (after s (take i acts)));
   }
 
   -- it is done, and finds no room for its answer
-  pub unreported_next : (done new : DeskState S) (answer : Answer) (found : List Answer) (f : Fault) → Called g mid done (λ s Pre. IsDone g s a answer done Pre) → new.held ≡ done.held → found ≡ before → IsPoisoned f new
+  pub unreported_next : (done new : DeskState S) (answer : Answer) (found : List Answer) (f : Fault) → Called g mid done (λ s Pre. IsDone g s a answer done Pre) → new.connection ≡ done.connection → found ≡ before → IsPoisoned f new
       → Called g old new (λ s Pre. AreStopped g s acts given found f new Pre)
-  unreported_next done new answer found f one held silent gone =
-      let clean_done : HasCleanDisk (state g new.held) → HasCleanDisk (state g done.held) = subst (λ it. HasCleanDisk (state g it)) held in
+  unreported_next done new answer found f one connection silent gone =
+      let clean_done : HasCleanDisk (state g new.connection) → HasCleanDisk (state g done.connection) = subst (λ it. HasCleanDisk (state g it)) connection in
       record {
         clean = λ clean. so_far.clean (one.clean (clean_done clean));
-        shield = λ shielded. subst (λ it. (state g it).IsShielded) (sym held) (one.shield (so_far.shield shielded));
+        shield = λ shielded. subst (λ it. (state g it).IsShielded) (sym connection) (one.shield (so_far.shield shielded));
         did = λ s is_open same.
             let so = so_far.did s is_open same in
             let it = one.did (after s (take i acts)) so.is_open (sym so.office) in
@@ -132,8 +132,8 @@ module _ (acts : List Act) (i : ℕ) (a : Act) (within : i < length acts) (is : 
               prefix = record { within = low; one_more = inl within; answered = ◌∙◌ {A = List Answer} silent so.answered };
               stops = stops_reopen (after s (take i acts)).office f new gone.reopen gone.gone;
               left = λ at.
-                  leaves_reopen g (after s (take i acts)) (after s (take (i + 1) acts)) f done new gone.reopen held
+                  leaves_reopen g (after s (take i acts)) (after s (take (i + 1) acts)) f done new gone.reopen connection
                   (subst (λ (t : State). IsAt g t done) (sym (after_next acts i a within is s)) (it.represents (clean_done at.0, so.represents (one.clean (clean_done at.0), at.1))));
             };
-        rest = λ s clean at. subst (λ it. Leaves (SparesRest (state g old.held).now) (state g it)) (sym held) (rest_next done one.clean s (clean_done clean) at (one.rest (after s (take i acts))));
+        rest = λ s clean at. subst (λ it. Leaves (SparesRest (state g old.connection).now) (state g it)) (sym connection) (rest_next done one.clean s (clean_done clean) at (one.rest (after s (take i acts))));
       }

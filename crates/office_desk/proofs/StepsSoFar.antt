@@ -32,8 +32,8 @@ abbrev pub CalledStep : {S : Type 0} (g : Ghosts S) (old new : DeskState S) (ans
 CalledStep g old new answer = Called g old new (λ s Pre. IsDone g s act.RunStep answer new Pre)
 
 -- what the next step leaves of the rest of the file
-rest_taken : {S : Type 0} (g : Ghosts S) (old mid new : DeskState S) → CalledSteps g old mid → (HasCleanDisk (state g new.held) → HasCleanDisk (state g mid.held)) → (s : State) → HasCleanDisk (state g new.held) → IsAt g s old
-    → ((t : State) → HasCleanDisk (state g new.held) → IsAt g t mid → LeavesRestOf g mid new) → LeavesRestOf g old new
+rest_taken : {S : Type 0} (g : Ghosts S) (old mid new : DeskState S) → CalledSteps g old mid → (HasCleanDisk (state g new.connection) → HasCleanDisk (state g mid.connection)) → (s : State) → HasCleanDisk (state g new.connection) → IsAt g s old
+    → ((t : State) → HasCleanDisk (state g new.connection) → IsAt g t mid → LeavesRestOf g mid new) → LeavesRestOf g old new
 rest_taken g old mid new so_far early s clean at next =
     let so = so_far.did s at.is_open (sym at.office) in
     let represents = so.represents (early clean, at) in
@@ -98,7 +98,7 @@ steps_stopped g old mid new f still so_far first one = record {
         count = so.count;
         stops = subst (λ (o : Office). StopsAt o f new) so.office it.stops;
         left = λ at.
-            subst (λ (t : State). StopsLeaving (after_steps s so.count) t f (state g new.held)) (sym (after_more so.count s))
+            subst (λ (t : State). StopsLeaving (after_steps s so.count) t f (state g new.connection)) (sym (after_more so.count s))
             (it.left (at.0, so.represents (one.clean at.0, at.1)));
       };
   rest = λ s clean at. rest_taken g old mid new so_far one.clean s clean at one.rest;

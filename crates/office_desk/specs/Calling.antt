@@ -23,18 +23,18 @@ use Rattle.office_desk.specs.Resuming.{AreRunSteps, LeavesMidway, resumed_answer
 
 -- whatever a crash leaves has all that is not the office's as it was
 abbrev pub LeavesRestOf : {S : Type 0} (g : Ghosts S) (old new : DeskState S) → Type 0
-LeavesRestOf g old new = Leaves (SparesRest (state g old.held).now) (state g new.held)
+LeavesRestOf g old new = Leaves (SparesRest (state g old.connection).now) (state g new.connection)
 
 -- the desk was at the state, and the disk is clean
 abbrev pub WasAt : {S : Type 0} (g : Ghosts S) (s : State) (old new : DeskState S) → Type 0
-WasAt g s old new = HasCleanDisk (state g new.held) × IsAt g s old
+WasAt g s old new = HasCleanDisk (state g new.connection) × IsAt g s old
 
 -- by a desk that is open: what was done from each state with its office, where `Pre` is that it was there
 pub record Called {S : Type 0} (g : Ghosts S) (old new : DeskState S) (Post : State → Type 0 → Type 0) : Type 0 where
-  pub clean : HasCleanDisk (state g new.held) → HasCleanDisk (state g old.held)
-  pub shield : (state g old.held).IsShielded → (state g new.held).IsShielded
+  pub clean : HasCleanDisk (state g new.connection) → HasCleanDisk (state g old.connection)
+  pub shield : (state g old.connection).IsShielded → (state g new.connection).IsShielded
   pub did : (s : State) → old.is_poisoned ≡ false → s.office ≡ old.office → Post s (WasAt g s old new)
-  pub rest : (s : State) → HasCleanDisk (state g new.held) → IsAt g s old → LeavesRestOf g old new
+  pub rest : (s : State) → HasCleanDisk (state g new.connection) → IsAt g s old → LeavesRestOf g old new
 
 -- a change was done in memory, and is answered
 pub record IsMade {S : Type 0} (change : Change) (answer : Answer) (old new : DeskState S) : Type 0 where
@@ -51,14 +51,14 @@ pub record IsPoisoned {S : Type 0} (f : Fault) (new : DeskState S) : Type 0 wher
 pub record IsSaved {S : Type 0} (g : Ghosts S) (s : State) (change : Change) (answer : Answer) (old new : DeskState S)
     (Pre : Type 0) : Type 0 where
   pub made : IsMade change answer old new
-  pub rows : Pre → ContainsRows (rows_of (all_writes change.writes.items s)) (state g new.held)
+  pub rows : Pre → ContainsRows (rows_of (all_writes change.writes.items s)) (state g new.connection)
 
 -- a fault on the way from a state to the next
 pub record IsFaulted {S : Type 0} (g : Ghosts S) (s next : State) (f : Fault) (old new : DeskState S) (Pre : Type 0) :
     Type 0 where
   pub memory : f ≡ fault.Memory → new ≡ old
   pub stops : StopsAt old.office f new
-  pub left : Pre → StopsLeaving s next f (state g new.held)
+  pub left : Pre → StopsLeaving s next f (state g new.connection)
 
 -- how the saving and making of a change ends
 abbrev pub EndChange : {S : Type 0} (g : Ghosts S) (s : State) (change : Change) (result : Result Answer Fault)
@@ -95,7 +95,7 @@ pub record AreStopped {S : Type 0} (g : Ghosts S) (s : State) (acts : List Act) 
   pub count : ℕ
   pub prefix : IsPrefixAnswered s acts given found f count
   pub stops : StopsAt (after s (take count acts)).office f new
-  pub left : Pre → StopsLeaving (after s (take count acts)) (after s (take (count + 1) acts)) f (state g new.held)
+  pub left : Pre → StopsLeaving (after s (take count acts)) (after s (take (count + 1) acts)) f (state g new.connection)
 
 -- how acts end
 abbrev pub EndActs : {S T : Type 0} (g : Ghosts S) (s : State) (acts : List Act) (given found : List Answer)
@@ -108,10 +108,10 @@ pub record Performed {S T : Type 0} (g : Ghosts S) (s : State) (acts : List Act)
     (result : Result T Fault) (new : DeskState S) (Pre : Type 0) : Type 0 where
   pub formed : AreWellFormed acts
   pub ends : EndActs g s acts given found result new Pre
-  pub offices : Pre → LeavesOffices (state g new.held)
-  pub fates : Pre → LeavesFates s acts (state g new.held)
+  pub offices : Pre → LeavesOffices (state g new.connection)
+  pub fates : Pre → LeavesFates s acts (state g new.connection)
   pub midway : (begun : State) (run : ℕ) → AreRunSteps acts → open_run begun.office ≡ Some run → IsMidway begun run s
-      → Pre → LeavesMidway begun run (state g new.held)
+      → Pre → LeavesMidway begun run (state g new.connection)
 
 -- steps were taken until no run was open
 pub record AreStepsDone {S : Type 0} (g : Ghosts S) (s : State) (answer : Answer) (old new : DeskState S) (Pre : Type 0)
@@ -129,7 +129,7 @@ pub record AreStepsStopped {S : Type 0} (g : Ghosts S) (s : State) (f : Fault) (
   pub memory : open_run old.office ≡ None → f ≡ fault.Memory → new ≡ old
   pub count : ℕ
   pub stops : StopsAt (after_steps s count).office f new
-  pub left : Pre → StopsLeaving (after_steps s count) (after_steps s (suc count)) f (state g new.held)
+  pub left : Pre → StopsLeaving (after_steps s count) (after_steps s (suc count)) f (state g new.connection)
 
 -- how steps end
 abbrev pub EndSteps : {S : Type 0} (g : Ghosts S) (s : State) (result : Result Answer Fault) (old new : DeskState S)

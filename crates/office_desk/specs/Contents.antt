@@ -48,5 +48,5 @@ pub record IsContentMissed {S : Type 0} (g : Ghosts S) (s : State) (r : ℕ) (f 
 pub record IsContentRead {S : Type 0} (g : Ghosts S) (s : State) (r : ℕ) (found : Result (Option (List ℕ)) Fault)
     (new : DeskState S) : Type 0 where
   pub ends : MatchResult found (λ bytes. IsContentTaken g s r bytes new) (λ f. IsContentMissed g s r f new)
-  pub leaves : LeavesRowsOf s (state g new.held)
-  pub offices : LeavesOffices (state g new.held)
+  pub leaves : LeavesRowsOf s (state g new.connection)
+  pub offices : LeavesOffices (state g new.connection)

@@ -14,11 +14,11 @@ use Rattle.office_desk.specs.Outcomes.{ActsCameTo, AreAnswered, all_done}
 -- a desk at the state did all of the acts, over a clean disk, and answered them behind what was answered before
 pub record DidAll {S : Type 0} (g : Ghosts S) (s : State) (acts : List Act) (given found : List Answer)
     (old new : DeskState S) : Type 0 where
-  pub clean : HasCleanDisk (state g new.held)
+  pub clean : HasCleanDisk (state g new.connection)
   pub began : IsAt g s old
   pub told : List Answer
   pub answered : AreAnswered s acts (all_done told) given found new
-  pub came : ActsCameTo s acts (all_done told) (state g new.held)
+  pub came : ActsCameTo s acts (all_done told) (state g new.connection)
 
 -- offices that do the entries of one log in order
 pub record OneLog {S : Type 0} (g : Ghosts S) : Type 0 where

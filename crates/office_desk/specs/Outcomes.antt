@@ -58,15 +58,15 @@ ActsLead s acts (all_done told) d = (d.office ≡ (after s acts).office) × (d.i
 ActsLead s acts (stopped told f) d = StopsAt (after s (take (length told) acts)).office f d
 
 -- a crash leaves the tables of this sound state
-pub record ContainsState (s : State) (held : sqlite.State) : Type 0 where
+pub record ContainsState (s : State) (file : sqlite.State) : Type 0 where
   pub sound : IsSound s
-  pub rows : ContainsRows (rows_of s) held
+  pub rows : ContainsRows (rows_of s) file
 
 -- a crash leaves the tables after all acts; or, by the fault, those after the answered ones or after one more
 abbrev pub ActsLeave : State → List Act → ActsOutcome → sqlite.State → Type 0
-ActsLeave s acts (all_done told) held = ContainsState (after s acts) held
-ActsLeave s acts (stopped told f) held =
-    StopsLeaving (after s (take (length told) acts)) (after s (take (length told + 1) acts)) f held
+ActsLeave s acts (all_done told) file = ContainsState (after s acts) file
+ActsLeave s acts (stopped told f) file =
+    StopsLeaving (after s (take (length told) acts)) (after s (take (length told + 1) acts)) f file
 
 -- acts were answered from a state, behind the answers that were there, and in memory the desk is where they lead
 pub record AreAnswered {S : Type 0} (s : State) (acts : List Act) (o : ActsOutcome) (given found : List Answer)
@@ -86,25 +86,25 @@ pub record IsActAnswered {S : Type 0} (s : State) (a : Act) (result : Result Ans
 
 -- acts from a state came to this: what was answered, and what a crash leaves of tables and contents, where all are steps
 -- of a run the run midway
-pub record ActsCameTo (s : State) (acts : List Act) (o : ActsOutcome) (held : sqlite.State) : Type 0 where
+pub record ActsCameTo (s : State) (acts : List Act) (o : ActsOutcome) (file : sqlite.State) : Type 0 where
   pub formed : AreWellFormed acts
   pub fits : CanComeTo acts o
   pub answered : answers_of o ≡ answers s (answered_acts acts o)
-  pub leaves : ActsLeave s acts o held
-  pub offices : LeavesOffices held
-  pub fates : LeavesFates s acts held
+  pub leaves : ActsLeave s acts o file
+  pub offices : LeavesOffices file
+  pub fates : LeavesFates s acts file
   pub midway : (begun : State) (run : ℕ) → AreRunSteps acts → open_run begun.office ≡ Some run → IsMidway begun run s
-      → LeavesMidway begun run held
+      → LeavesMidway begun run file
 
 -- ---- a call at a desk
 
 -- this is so of each state at which the desk was, where the disk is clean now
 abbrev pub FromEach : {S : Type 0} → Ghosts S → (old new : DeskState S) → (State → Type 0) → Type 0
-FromEach g old new P = (s : State) → HasCleanDisk (state g new.held) → IsAt g s old → P s
+FromEach g old new P = (s : State) → HasCleanDisk (state g new.connection) → IsAt g s old → P s
 
 -- a disk that is clean now was clean before, and then whatever a crash leaves has what is not the office's as it was;
 -- and where each later read was tested, it is
 pub record SparesTheRest {S : Type 0} (g : Ghosts S) (old new : DeskState S) : Type 0 where
-  pub clean : HasCleanDisk (state g new.held) → HasCleanDisk (state g old.held)
-  pub shield : (state g old.held).IsShielded → (state g new.held).IsShielded
+  pub clean : HasCleanDisk (state g new.connection) → HasCleanDisk (state g old.connection)
+  pub shield : (state g old.connection).IsShielded → (state g new.connection).IsShielded
   pub rest : FromEach g old new (λ s. LeavesRestOf g old new)

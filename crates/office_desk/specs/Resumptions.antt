@@ -60,7 +60,7 @@ RunLeads g s (run_closed run) d = IsAt g (whole s run) d
 RunLeads g s none_open d = IsAt g s d
 RunLeads g s (run_stopped f) d =
     (n : ℕ) × StopsAt (after_steps s n).office f d
-    × StopsLeaving (after_steps s n) (after_steps s (suc n)) f (state g d.held)
+    × StopsLeaving (after_steps s n) (after_steps s (suc n)) f (state g d.connection)
 
 -- the open run was resumed from a state and came to this
 pub record RunCameTo {S : Type 0} (g : Ghosts S) (s : State) (o : RunOutcome) (d : DeskState S) : Type 0 where
@@ -71,26 +71,26 @@ pub record RunCameTo {S : Type 0} (g : Ghosts S) (s : State) (o : RunOutcome) (d
       → IsAt g (whole begun run) d
   -- a crash leaves the run midway; where none is open, the state; always an office's tables
   pub midway : (begun : State) (run : ℕ) → open_run begun.office ≡ Some run → IsMidway begun run s
-      → LeavesMidway begun run (state g d.held)
-  pub none : open_run s.office ≡ None → LeavesRowsOf s (state g d.held)
-  pub offices : LeavesOffices (state g d.held)
-  pub fates : LeavesStepFates s (state g d.held)
+      → LeavesMidway begun run (state g d.connection)
+  pub none : open_run s.office ≡ None → LeavesRowsOf s (state g d.connection)
+  pub offices : LeavesOffices (state g d.connection)
+  pub fates : LeavesStepFates s (state g d.connection)
 
 -- ---- in a file, once the desk is closed
 
 -- a crash leaves the tables of these states
 abbrev pub RunLeaves : State → RunOutcome → sqlite.State → Type 0
-RunLeaves s (run_closed run) held = ContainsRows (rows_of (whole s run)) held
-RunLeaves s none_open held = ContainsRows (rows_of s) held
-RunLeaves s (run_stopped f) held = (n : ℕ) × StopsLeaving (after_steps s n) (after_steps s (suc n)) f held
+RunLeaves s (run_closed run) file = ContainsRows (rows_of (whole s run)) file
+RunLeaves s none_open file = ContainsRows (rows_of s) file
+RunLeaves s (run_stopped f) file = (n : ℕ) × StopsLeaving (after_steps s n) (after_steps s (suc n)) f file
 
 -- the same of the file
-pub record RunLeft (o : RunOutcome) (held : sqlite.State) (s : State) : Type 0 where
+pub record RunLeft (o : RunOutcome) (file : sqlite.State) (s : State) : Type 0 where
   pub fits : IsRunOf s o
-  pub leaves : RunLeaves s o held
+  pub leaves : RunLeaves s o file
   pub whole : IsNotStopped o → (begun : State) (run : ℕ) → open_run begun.office ≡ Some run → IsMidway begun run s
-      → ContainsRows (rows_of (whole begun run)) held
+      → ContainsRows (rows_of (whole begun run)) file
   pub midway : (begun : State) (run : ℕ) → open_run begun.office ≡ Some run → IsMidway begun run s
-      → LeavesMidway begun run held
-  pub none : open_run s.office ≡ None → LeavesRowsOf s held
-  pub fates : LeavesStepFates s held
+      → LeavesMidway begun run file
+  pub none : open_run s.office ≡ None → LeavesRowsOf s file
+  pub fates : LeavesStepFates s file

@@ -60,7 +60,7 @@ impl<S: Alter> Desk<S> {
     /// Does a saved change in memory and answers; the desk is poisoned where a growth is refused.
     fn finish(&mut self, change: Change) -> Result<Answer, Fault>
         requires feasible { CanBeMade self.old.office change }
-        ensures held { self.new.held ≡ self.old.held }
+        ensures connection { self.new.connection ≡ self.old.connection }
         ensures ends { MatchResult result (λ answer. IsMade change answer self.old self.new)
             (λ fault. IsPoisoned fault self.new) }
     {
@@ -75,7 +75,7 @@ impl<S: Alter> Desk<S> {
     /// Puts the answer to an act that is done behind the others; the desk is poisoned where a
     /// growth is refused.
     fn report(&mut self, answer: Answer, answers: &mut Vec<Answer>) -> Result<(), Fault>
-        ensures held { self.new.held ≡ self.old.held }
+        ensures connection { self.new.connection ≡ self.old.connection }
         ensures ends { MatchResult result
             (λ _. (answers.new.items ≡ answers.old.items ++ answer ∷ []) × (self.new ≡ self.old))
             (λ fault. (answers.new.items ≡ answers.old.items) × IsPoisoned fault self.new) }
@@ -119,7 +119,7 @@ impl<S: Alter> Desk<S> {
 
         // A crash leaves the tables before the act or after it.
         ensures leaves { FromEach S.Store self.old self.new (λ s. ActsCameTo s (act.now ∷ [])
-            (act_outcome result) (state S.Store self.new.held)) }
+            (act_outcome result) (state S.Store self.new.connection)) }
 
         // The rest of the file stays as it was.
         ensures rest { SparesTheRest S.Store self.old self.new }
@@ -153,7 +153,7 @@ impl<S: Alter> Desk<S> {
 
         // A crash leaves the tables after the answered acts, or after one act more.
         ensures leaves { FromEach S.Store self.old self.new (λ s. ActsCameTo s acts.now
-            (acts_outcome result answers.old.items answers.new.items) (state S.Store self.new.held)) }
+            (acts_outcome result answers.old.items answers.new.items) (state S.Store self.new.connection)) }
 
         // The rest of the file stays as it was.
         ensures rest { SparesTheRest S.Store self.old self.new }

@@ -101,18 +101,18 @@ module _ (stay : StaySound) (s : State) (sound : IsSound s) (acts : List Act) wh
         (after s left.0, (left.0, left.1, refl), left.2)
 
 -- the same once the desk is closed
-module _ (stay : StaySound) {S : Type 0} (g : Ghosts S) (acts : List Act) (given found : Vec Answer Global) (none : given.items ≡ []) (old new : DeskState S) (conn : Held S) (closed : conn ≡ new.held) where
-  pub acted : FromEach g old new (λ s. ActsCameTo s acts (acts_outcome (Ok tt) given.items found.items) (state g new.held)) → HasCleanDisk (state g conn) → (s : State) → IsAt g s old
+module _ (stay : StaySound) {S : Type 0} (g : Ghosts S) (acts : List Act) (given found : Vec Answer Global) (none : given.items ≡ []) (old new : DeskState S) (conn : Held S) (closed : conn ≡ new.connection) where
+  pub acted : FromEach g old new (λ s. ActsCameTo s acts (acts_outcome (Ok tt) given.items found.items) (state g new.connection)) → HasCleanDisk (state g conn) → (s : State) → IsAt g s old
       → LeavesAt (LeadsBy (DidActs acts (end.Done found)) s) (state g conn)
   acted came clean s at =
       let before = subst (λ (h : Held S). HasCleanDisk (state g h)) closed clean in
-      subst (λ (h : Held S). LeavesAt (LeadsBy (DidActs acts (end.Done found)) s) (state g h)) (sym closed) (did_all stay s at.sound acts given found none (state g new.held) (came s before at))
+      subst (λ (h : Held S). LeavesAt (LeadsBy (DidActs acts (end.Done found)) s) (state g h)) (sym closed) (did_all stay s at.sound acts given found none (state g new.connection) (came s before at))
 
-  pub stopped : (f : Fault) → FromEach g old new (λ s. ActsCameTo s acts (acts_outcome (Err f) given.items found.items) (state g new.held)) → HasCleanDisk (state g conn) → (s : State) → IsAt g s old
+  pub stopped : (f : Fault) → FromEach g old new (λ s. ActsCameTo s acts (acts_outcome (Err f) given.items found.items) (state g new.connection)) → HasCleanDisk (state g conn) → (s : State) → IsAt g s old
       → LeavesAt (LeadsBy (DidActs acts (end.Stopped found f)) s) (state g conn)
   stopped f came clean s at =
       let before = subst (λ (h : Held S). HasCleanDisk (state g h)) closed clean in
-      subst (λ (h : Held S). LeavesAt (LeadsBy (DidActs acts (end.Stopped found f)) s) (state g h)) (sym closed) (did_some stay s at.sound acts given found none (state g new.held) f (came s before at))
+      subst (λ (h : Held S). LeavesAt (LeadsBy (DidActs acts (end.Stopped found f)) s) (state g h)) (sym closed) (did_some stay s at.sound acts given found none (state g new.connection) f (came s before at))
 
 -- ---- resumptions at a desk
 
@@ -122,7 +122,7 @@ module _ (one : IsOneDatabase) (stay : StaySound) {S : Type 0} (g : Ghosts S) (s
   whole_is_closed run is_open = closed_is_closed (with_outcomes s run (candidates s.office run)) run ((opened s run is_open).last ∙ sym (length-runs s run (candidates s.office run)))
 
   -- some steps of the run were taken
-  module _ (o : RunOutcome) (new : DeskState S) (it : RunCameTo g s o new) (db : Trees) (may : (state g new.held).may_leave db) where
+  module _ (o : RunOutcome) (new : DeskState S) (it : RunCameTo g s o new) (db : Trees) (may : (state g new.connection).may_leave db) where
     taken : (done : List Act) × AreRunSteps done × IsSound (after s done) × RepresentsRows (rows_of (after s done)) db
     taken =
         let left = it.fates.2 db may in
@@ -138,23 +138,23 @@ module _ (one : IsOneDatabase) (stay : StaySound) {S : Type 0} (g : Ghosts S) (s
     same_as u desk = one schema_version.Two (after s taken.0) u db taken.2 desk.sound taken.3 (subst (λ (t : Trees). RepresentsRows (rows_of u) t) (sym (desk.rows.rest.only db may)) desk.rows.represents)
 
   -- and where they were done, no run is open
-  none_after : (answer : Answer) (was_open : Option ℕ) (new : DeskState S) (it : RunCameTo g s (run_outcome (Ok answer) was_open) new) (db : Trees) (may : (state g new.held).may_leave db)
+  none_after : (answer : Answer) (was_open : Option ℕ) (new : DeskState S) (it : RunCameTo g s (run_outcome (Ok answer) was_open) new) (db : Trees) (may : (state g new.connection).may_leave db)
       → open_run (after s (taken (run_outcome (Ok answer) was_open) new it db may).0).office ≡ None
   none_after answer None new it db may = ap (λ (t : State). open_run t.office) (same_as none_open new it db may s it.leads) ∙ it.fits
   none_after answer (Some run) new it db may = ap (λ (t : State). open_run t.office) (same_as (run_closed run) new it db may (whole s run) it.leads) ∙ whole_is_closed run it.fits
 
   resumed_to : (answer : Answer) (old new : DeskState S) → s.office ≡ old.office → answer ≡ resumed_answer (open_run old.office) → RunCameTo g s (run_outcome (Ok answer) (open_run old.office)) new
-      → LeavesAt (LeadsBy (DidSteps (end.Resumed answer)) s) (state g new.held)
+      → LeavesAt (LeadsBy (DidSteps (end.Resumed answer)) s) (state g new.connection)
   resumed_to answer old new here answered it db may =
       let o = run_outcome (Ok answer) (open_run old.office) in
       let from = answered ∙ ap (λ x. resumed_answer (open_run x)) (sym here) in
       (after s (taken o new it db may).0, ((taken o new it db may).0, ((taken o new it db may).1, from, none_after answer (open_run old.office) new it db may), refl), there o new it db may)
 
-  interrupted_at : (f : Fault) (new : DeskState S) → RunCameTo g s (run_stopped f) new → LeavesAt (LeadsBy (DidSteps (end.Interrupted f)) s) (state g new.held)
+  interrupted_at : (f : Fault) (new : DeskState S) → RunCameTo g s (run_stopped f) new → LeavesAt (LeadsBy (DidSteps (end.Interrupted f)) s) (state g new.connection)
   interrupted_at f new it db may = (after s (taken (run_stopped f) new it db may).0, ((taken (run_stopped f) new it db may).0, (taken (run_stopped f) new it db may).1, refl), there (run_stopped f) new it db may)
 
 -- the same once the desk is closed
-module _ (one : IsOneDatabase) (stay : StaySound) {S : Type 0} (g : Ghosts S) (old new : DeskState S) (conn : Held S) (closed : conn ≡ new.held) where
+module _ (one : IsOneDatabase) (stay : StaySound) {S : Type 0} (g : Ghosts S) (old new : DeskState S) (conn : Held S) (closed : conn ≡ new.connection) where
   pub resumed : (answer : Answer) → ((s : State) → old.is_poisoned ≡ false → s.office ≡ old.office → IsRunAnswered g s (Ok answer) old new)
       → FromEach g old new (λ s. RunCameTo g s (run_outcome (Ok answer) (open_run old.office)) new) → HasCleanDisk (state g conn) → (s : State) → IsAt g s old
       → LeavesAt (LeadsBy (DidSteps (end.Resumed answer)) s) (state g conn)

@@ -17,7 +17,7 @@ use std::alloc::Global;
 
 /// Does acts at a desk, and closes it.
 fn act_on<S: Alter>(alloc: Global, mut desk: Desk<S>, acts: &[Act]) -> (StintEnd, Connection<S>)
-    ensures clean { HasCleanDisk (state S.Store result.1) → HasCleanDisk (state S.Store desk.held) }
+    ensures clean { HasCleanDisk (state S.Store result.1) → HasCleanDisk (state S.Store desk.connection) }
     ensures left { HasCleanDisk (state S.Store result.1) → (s : State) → IsAt S.Store s desk
         → LeavesAt (LeadsBy (DidActs acts.now result.0) s) (state S.Store result.1) }
 {
@@ -31,7 +31,7 @@ fn act_on<S: Alter>(alloc: Global, mut desk: Desk<S>, acts: &[Act]) -> (StintEnd
 
 /// Resumes the open run at a desk, and closes it.
 fn resume_on<S: Alter>(mut desk: Desk<S>) -> (StintEnd, Connection<S>)
-    ensures clean { HasCleanDisk (state S.Store result.1) → HasCleanDisk (state S.Store desk.held) }
+    ensures clean { HasCleanDisk (state S.Store result.1) → HasCleanDisk (state S.Store desk.connection) }
     ensures left { HasCleanDisk (state S.Store result.1) → (s : State) → IsAt S.Store s desk
         → LeavesAt (LeadsBy (DidSteps result.0) s) (state S.Store result.1) }
 {
@@ -45,7 +45,7 @@ fn resume_on<S: Alter>(mut desk: Desk<S>) -> (StintEnd, Connection<S>)
 
 /// Does at a desk what is asked, and closes it.
 fn work_on<S: Alter>(alloc: Global, desk: Desk<S>, task: &Task) -> (StintEnd, Connection<S>)
-    ensures clean { HasCleanDisk (state S.Store result.1) → HasCleanDisk (state S.Store desk.held) }
+    ensures clean { HasCleanDisk (state S.Store result.1) → HasCleanDisk (state S.Store desk.connection) }
     ensures left { HasCleanDisk (state S.Store result.1) → (s : State) → IsAt S.Store s desk
         → LeavesAt (Leads task.now result.0 s) (state S.Store result.1) }
 {

@@ -55,7 +55,7 @@ reported_is t n None is = is
 reported_is t n (Some bytes) is = is.0
 
 module _ {S : Type 0} (g : Ghosts S) (t : State) (d : DeskState S) (r : Response) (well : IsWell r) where
-  outcome_well : (done : List Act) (o : ActsOutcome) → r ≡ acts_reply o → ActsLead t done o d → ActsCameTo t done o (state g d.held) → (r ≡ acts_response (answers t done)) × IsAt g (after t done) d
+  outcome_well : (done : List Act) (o : ActsOutcome) → r ≡ acts_reply o → ActsLead t done o d → ActsCameTo t done o (state g d.connection) → (r ≡ acts_response (answers t done)) × IsAt g (after t done) d
   outcome_well done (all_done replies) is leads came = (
     is ∙ ap (λ (x : List Answer). acts_response x) came.answered,
     record { is_open = leads.1; office = leads.0; sound = came.leaves.sound; rows = came.leaves.rows },
@@ -139,7 +139,7 @@ module _ {S : Type 0} (g : Ghosts S) where
   ok_well (Ok code) P Q is then = (code, is, then)
   ok_well (Err e) P Q is then = absurd is
 
-  exchanged_well : (t : State) (bytes : List ℕ) (it : Sent) (old new : DeskState S) → IsExchanged g bytes it old new → IsOkAnd it.status (λ code. code ≢ 503) → HasCleanDisk (state g new.held) → IsAt g t old → IsWellServed t bytes it.bytes new
+  exchanged_well : (t : State) (bytes : List ℕ) (it : Sent) (old new : DeskState S) → IsExchanged g bytes it old new → IsOkAnd it.status (λ code. code ≢ 503) → HasCleanDisk (state g new.connection) → IsAt g t old → IsWellServed t bytes it.bytes new
   exchanged_well t bytes it old new exchanged well clean at =
       let one = exchanged.served.call.did t clean at in
       let got = ok_well it.status (λ code. code ≢ 503) (λ code. Replies g t bytes (Unit {0}) code (Some []) (Some it.bytes) new) well one.ok in
@@ -157,7 +157,7 @@ module _ {S : Type 0} (g : Ghosts S) where
   abbrev pub IsAfterSession : State → List (List ℕ) → List Sent → DeskState S → Type 0
   IsAfterSession s came sent d = (u : State) × IsSession s came (bytes_of sent) u × IsAt g u d
 
-  session_more : (s : State) (came : List (List ℕ)) (sent : List Sent) (bytes : List ℕ) (it : Sent) (old new : DeskState S) → IsAfterSession s came sent old → IsExchanged g bytes it old new → IsOkAnd it.status (λ code. code ≢ 503) → HasCleanDisk (state g new.held)
+  session_more : (s : State) (came : List (List ℕ)) (sent : List Sent) (bytes : List ℕ) (it : Sent) (old new : DeskState S) → IsAfterSession s came sent old → IsExchanged g bytes it old new → IsOkAnd it.status (λ code. code ≢ 503) → HasCleanDisk (state g new.connection)
       → IsAfterSession s (came ++ bytes ∷ []) (sent ++ it ∷ []) new
   session_more s came sent bytes it old new (t, session, at) exchanged well clean =
       let one = exchanged_well t bytes it old new exchanged well clean at in (
@@ -166,7 +166,7 @@ module _ {S : Type 0} (g : Ghosts S) where
         one.3,
       )
 
-  session_of : (s : State) (old : DeskState S) (came : List (List ℕ)) (sent : List Sent) (new : DeskState S) → AreExchanged g old came sent new → AreWellAnswered sent → HasCleanDisk (state g new.held) → IsAt g s old → IsAfterSession s came sent new
+  session_of : (s : State) (old : DeskState S) (came : List (List ℕ)) (sent : List Sent) (new : DeskState S) → AreExchanged g old came sent new → AreWellAnswered sent → HasCleanDisk (state g new.connection) → IsAt g s old → IsAfterSession s came sent new
   session_of s old _ _ _ none well clean at = (s, begun s, at)
   session_of s old _ _ _ (one_more came sent bytes it mid new before exchanged) well clean at =
       let parts = all_but_last sent it well in

@@ -38,7 +38,7 @@ use Rattle.office_wire.proofs.Calls.{called, called_on, not_called}
 
 -- an act was read, and was done or stopped
 pub row_ended : {S : Type 0} (g : Ghosts S) (day : ℤ) (s : State) (row : Fields) (act : Act) (x : Result Answer Fault) (old desk : DeskState S) → parsed_row day row ≡ Ok act → IsActAnswered s act x old desk
-    → ActsCameTo s (act ∷ []) (act_outcome x) (state g desk.held) → EndsRow g day s row x desk
+    → ActsCameTo s (act ∷ []) (act_outcome x) (state g desk.connection) → EndsRow g day s row x desk
 row_ended g day s row act (Ok answer) old desk read it came =
     ((step s act).1, (rw read (it.formed, it.answered, refl)), record { is_open = it.leads.1; office = it.leads.0; sound = came.leaves.sound; rows = came.leaves.rows })
 row_ended g day s row act (Err f) old desk read it came = inr (act, read, it.formed, (it.leads, came.leaves))

@@ -42,7 +42,7 @@ pub record ArePerformed {S : Type 0} (Reported : Response → Type 0) (g : Ghost
   pub outcome : ActsOutcome
   pub reported : Reported (acts_reply outcome)
   pub leads : ActsLead t done outcome desk
-  pub came : ActsCameTo t done outcome (state g desk.held)
+  pub came : ActsCameTo t done outcome (state g desk.connection)
 
 -- what bytes ask for, by what is read of them
 abbrev pub PerformsActs : {S : Type 0} → (Response → Type 0) → Ghosts S → State → Result (List Act) NoActs

@@ -9,9 +9,9 @@ use Rattle.office_desk.specs.Leaving.{IsAt}
 
 -- from each state at which the desk was, over a disk that is clean, this was done
 pub record CalledAt {S : Type 0} (g : Ghosts S) (old new : DeskState S) (DoneFrom : State → Type 0) : Type 0 where
-  pub clean : HasCleanDisk (state g new.held) → HasCleanDisk (state g old.held)
-  pub shield : (state g old.held).IsShielded → (state g new.held).IsShielded
-  pub did : (t : State) → HasCleanDisk (state g new.held) → IsAt g t old → DoneFrom t
+  pub clean : HasCleanDisk (state g new.connection) → HasCleanDisk (state g old.connection)
+  pub shield : (state g old.connection).IsShielded → (state g new.connection).IsShielded
+  pub did : (t : State) → HasCleanDisk (state g new.connection) → IsAt g t old → DoneFrom t
 
 -- and this is answered by a poisoned desk before, which stays as it was; and this where it is poisoned here
 pub record AnsweredAt {S : Type 0} (g : Ghosts S) (old new : DeskState S) (DoneFrom : State → Type 0)

@@ -42,7 +42,7 @@ IsRowDone day s row answer t = IsAnsweredBy s (parsed_row day row) answer t
 
 -- a fault stopped an act on the way to the state after it
 abbrev pub IsActStopped : {S : Type 0} → Ghosts S → State → Act → Fault → DeskState S → Type 0
-IsActStopped g s act f desk = StopsAt s.office f desk × StopsLeaving s (step s act).1 f (state g desk.held)
+IsActStopped g s act f desk = StopsAt s.office f desk × StopsLeaving s (step s act).1 f (state g desk.connection)
 
 -- a fault stopped a row: memory ran out to read it, or the act that adds its record was stopped
 abbrev pub IsRowStopped : {S : Type 0} → Ghosts S → ℤ → State → Fields → Fault → DeskState S → Type 0

@@ -141,7 +141,7 @@ AreWellAnswered sent = AllByRecursion (λ it. IsOkAnd it.status (λ code. code �
 -- none by 503
 pub record Attends {S : Type 0} (g : Ghosts S) (s : State) (came : List (List ℕ)) (sent : List Sent)
     (old new : DeskState S) : Type 0 where
-  pub clean : HasCleanDisk (state g new.held)
+  pub clean : HasCleanDisk (state g new.connection)
   pub began : IsAt g s old
   pub exchanged : AreExchanged g old came sent new
   pub well : AreWellAnswered sent

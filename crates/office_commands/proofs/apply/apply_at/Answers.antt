@@ -7,7 +7,7 @@ use Rattle.office_commands.proofs.apply.apply_at.Goals as goal
 pub returns-in-Ok-write_answers-clause-done : goal.returns-in-Ok-write_answers-clause-done
 returns-in-Ok-write_answers-clause-done g c =
     let found = c.perform_all-done.new.answers.items in
-    performs_applies (FromEach g.S.Store c.args.desk.now c.perform_all-done.new.self) c.args.text.now (state g.S.Store c.perform_all-done.new.self.held) _ _ c.of_acts.result _ _ c.as_slice.ensures.value c.in-Ok.ensures.ok
+    performs_applies (FromEach g.S.Store c.args.desk.now c.perform_all-done.new.self) c.args.text.now (state g.S.Store c.perform_all-done.new.self.connection) _ _ c.of_acts.result _ _ c.as_slice.ensures.value c.in-Ok.ensures.ok
     (record {
       outcome = acts_outcome c.perform_all-done.result [] found;
       reported = inl (rw (c.as_slice-in-Ok.ensures.value, answers_alone c.perform_all-done.result found) at c.in-Ok-write_answers.ensures.ok, rw c.as_slice-in-Ok-write_answers.ensures.value at c.of_acts.ensures);
@@ -17,7 +17,7 @@ returns-in-Ok-write_answers-clause-done g c =
 pub returns-in-Ok-clause-done : goal.returns-in-Ok-clause-done
 returns-in-Ok-clause-done g c =
     let found = c.perform_all-done.new.answers.items in
-    performs_applies (FromEach g.S.Store c.args.desk.now c.perform_all-done.new.self) c.args.text.now (state g.S.Store c.perform_all-done.new.self.held) _ _ _ _ _ c.as_slice.ensures.value c.in-Ok.ensures.ok
+    performs_applies (FromEach g.S.Store c.args.desk.now c.perform_all-done.new.self) c.args.text.now (state g.S.Store c.perform_all-done.new.self.connection) _ _ _ _ _ c.as_slice.ensures.value c.in-Ok.ensures.ok
     (record {
       outcome = acts_outcome c.perform_all-done.result [] found;
       reported = inr (rw (c.as_slice-in-Ok.ensures.value, answers_alone c.perform_all-done.result found) at c.in-Err-write_answers.ensures.err, refl);

@@ -17,12 +17,12 @@ returns-in-Ok-clause-ends g c =
     (λ h. CertificateEnds c.args.run (state g.S.Store c.args.conn) (state g.S.Store h) (g.W.Write.contents c.args.out.now) (g.W.Write.contents c.certificate_at-exit.new.out) c.certificate_at-exit.result)
     (inr (
       opened g.S.Store c.args.conn desk it,
-      certifies_of (λ (P : State → Type 0). (s : State) → s.office ≡ desk.office → P s) (FromOpened (state g.S.Store c.args.conn) (state g.S.Store desk.held)) (of_office g.S.Store c.args.conn desk it)
+      certifies_of (λ (P : State → Type 0). (s : State) → s.office ≡ desk.office → P s) (FromOpened (state g.S.Store c.args.conn) (state g.S.Store desk.connection)) (of_office g.S.Store c.args.conn desk it)
           c.args.run _ _ _ c.certificate_at-exit.ensures,
     ))
 
 pub returns-in-Ok-clause-clean : goal.returns-in-Ok-clause-clean
-returns-in-Ok-clause-clean g c = clean_closed g.S.Store c.args.conn c.in-Ok.desk.held c.close.result c.close.ensures.same c.in-Ok.ensures.ok.clean
+returns-in-Ok-clause-clean g c = clean_closed g.S.Store c.args.conn c.in-Ok.desk.connection c.close.result c.close.ensures.same c.in-Ok.ensures.ok.clean
 
 pub returns-in-Err-clause-ends : goal.returns-in-Err-clause-ends
 returns-in-Err-clause-ends g c = inl (c.in-Err.fault, refl, unopened g.S.Store c.args.conn c.in-Err.fault c.in-Err.conn c.in-Err.ensures.err, refl)
@@ -31,7 +31,7 @@ pub returns-in-Err-clause-clean : goal.returns-in-Err-clause-clean
 returns-in-Err-clause-clean g c = c.in-Err.ensures.err.clean
 
 pub returns-in-Ok-clause-shield : goal.returns-in-Ok-clause-shield
-returns-in-Ok-clause-shield g c = shield_closed g.S.Store c.args.conn c.in-Ok.desk.held c.close.result c.close.ensures.same c.in-Ok.ensures.ok.shield
+returns-in-Ok-clause-shield g c = shield_closed g.S.Store c.args.conn c.in-Ok.desk.connection c.close.result c.close.ensures.same c.in-Ok.ensures.ok.shield
 
 pub returns-in-Err-clause-shield : goal.returns-in-Err-clause-shield
 returns-in-Err-clause-shield g c = c.in-Err.ensures.err.shield

@@ -12,7 +12,7 @@ returns-in-Ok-clause-ends g c =
     (inr (opened g.S.Store c.args.conn c.in-Ok.desk c.in-Ok.ensures.ok, c.report_version.ensures))
 
 pub returns-in-Ok-clause-clean : goal.returns-in-Ok-clause-clean
-returns-in-Ok-clause-clean g c = clean_closed g.S.Store c.args.conn c.in-Ok.desk.held c.close.result c.close.ensures.same c.in-Ok.ensures.ok.clean
+returns-in-Ok-clause-clean g c = clean_closed g.S.Store c.args.conn c.in-Ok.desk.connection c.close.result c.close.ensures.same c.in-Ok.ensures.ok.clean
 
 pub returns-in-Err-clause-ends : goal.returns-in-Err-clause-ends
 returns-in-Err-clause-ends g c = inl (c.in-Err.fault, refl, unopened g.S.Store c.args.conn c.in-Err.fault c.in-Err.conn c.in-Err.ensures.err, refl)
@@ -21,7 +21,7 @@ pub returns-in-Err-clause-clean : goal.returns-in-Err-clause-clean
 returns-in-Err-clause-clean g c = c.in-Err.ensures.err.clean
 
 pub returns-in-Ok-clause-shield : goal.returns-in-Ok-clause-shield
-returns-in-Ok-clause-shield g c = shield_closed g.S.Store c.args.conn c.in-Ok.desk.held c.close.result c.close.ensures.same c.in-Ok.ensures.ok.shield
+returns-in-Ok-clause-shield g c = shield_closed g.S.Store c.args.conn c.in-Ok.desk.connection c.close.result c.close.ensures.same c.in-Ok.ensures.ok.shield
 
 pub returns-in-Err-clause-shield : goal.returns-in-Err-clause-shield
 returns-in-Err-clause-shield g c = c.in-Err.ensures.err.shield

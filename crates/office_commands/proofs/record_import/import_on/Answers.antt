@@ -17,11 +17,11 @@ returns-in-Ok-clause-ends g c =
     let text = g.R.Read.remaining c.args.input.now in
     once_closed _ _ c.close.ensures.same
     (λ h. ImportEnds c.args.day text (state g.S.Store c.args.conn) (state g.S.Store h) (g.W.Write.contents c.args.out.now) (g.W.Write.contents c.import_at-exit.new.out) c.import_at-exit.result)
-    (inr (imports_of (FromEach g.S.Store c.in-Ok.desk desk) (FromOpened (state g.S.Store c.args.conn) (state g.S.Store desk.held)) (of_desk g.S.Store c.args.conn c.in-Ok.desk c.in-Ok.ensures.ok desk c.import_at-exit.ensures.clean)
+    (inr (imports_of (FromEach g.S.Store c.in-Ok.desk desk) (FromOpened (state g.S.Store c.args.conn) (state g.S.Store desk.connection)) (of_desk g.S.Store c.args.conn c.in-Ok.desk c.in-Ok.ensures.ok desk c.import_at-exit.ensures.clean)
     c.args.day (option_map strip_bom text) _ _ _ _ c.import_at-exit.ensures.done))
 
 pub returns-in-Ok-clause-clean : goal.returns-in-Ok-clause-clean
-returns-in-Ok-clause-clean g c = clean_closed g.S.Store c.args.conn c.import_at-exit.new.desk.held c.close.result c.close.ensures.same (λ clean. c.in-Ok.ensures.ok.clean (c.import_at-exit.ensures.clean clean))
+returns-in-Ok-clause-clean g c = clean_closed g.S.Store c.args.conn c.import_at-exit.new.desk.connection c.close.result c.close.ensures.same (λ clean. c.in-Ok.ensures.ok.clean (c.import_at-exit.ensures.clean clean))
 
 pub returns-in-Err-clause-ends : goal.returns-in-Err-clause-ends
 returns-in-Err-clause-ends g c = inl (c.in-Err.fault, refl, unopened g.S.Store c.args.conn c.in-Err.fault c.in-Err.conn c.in-Err.ensures.err, refl)
@@ -30,7 +30,7 @@ pub returns-in-Err-clause-clean : goal.returns-in-Err-clause-clean
 returns-in-Err-clause-clean g c = c.in-Err.ensures.err.clean
 
 pub returns-in-Ok-clause-shield : goal.returns-in-Ok-clause-shield
-returns-in-Ok-clause-shield g c = shield_closed g.S.Store c.args.conn c.import_at-exit.new.desk.held c.close.result c.close.ensures.same (λ shielded. c.import_at-exit.ensures.shield (c.in-Ok.ensures.ok.shield shielded))
+returns-in-Ok-clause-shield g c = shield_closed g.S.Store c.args.conn c.import_at-exit.new.desk.connection c.close.result c.close.ensures.same (λ shielded. c.import_at-exit.ensures.shield (c.in-Ok.ensures.ok.shield shielded))
 
 pub returns-in-Err-clause-shield : goal.returns-in-Err-clause-shield
 returns-in-Err-clause-shield g c = c.in-Err.ensures.err.shield

@@ -19,12 +19,12 @@ returns-in-Ok-clause-ends g c =
     (λ h. ResumeEnds (state g.S.Store c.args.conn) (state g.S.Store h) (g.W.Write.contents c.args.out.now) (g.W.Write.contents c.resume_at-exit.new.out) c.resume_at-exit.result)
     (inr (
       kept_after g.S.Store c.args.conn c.in-Ok.desk opened desk spared.clean spared.rest,
-      resumes_of (FromEach g.S.Store c.in-Ok.desk desk) (FromOpened (state g.S.Store c.args.conn) (state g.S.Store desk.held)) (of_desk g.S.Store c.args.conn c.in-Ok.desk opened desk spared.clean)
+      resumes_of (FromEach g.S.Store c.in-Ok.desk desk) (FromOpened (state g.S.Store c.args.conn) (state g.S.Store desk.connection)) (of_desk g.S.Store c.args.conn c.in-Ok.desk opened desk spared.clean)
           _ _ _ _ c.resume_at-exit.ensures.done,
     ))
 
 pub returns-in-Ok-clause-clean : goal.returns-in-Ok-clause-clean
-returns-in-Ok-clause-clean g c = clean_closed g.S.Store c.args.conn c.resume_at-exit.new.desk.held c.close.result c.close.ensures.same (λ clean. c.in-Ok.ensures.ok.clean (c.resume_at-exit.ensures.rest.clean clean))
+returns-in-Ok-clause-clean g c = clean_closed g.S.Store c.args.conn c.resume_at-exit.new.desk.connection c.close.result c.close.ensures.same (λ clean. c.in-Ok.ensures.ok.clean (c.resume_at-exit.ensures.rest.clean clean))
 
 pub returns-in-Err-clause-ends : goal.returns-in-Err-clause-ends
 returns-in-Err-clause-ends g c = inl (c.in-Err.fault, refl, unopened g.S.Store c.args.conn c.in-Err.fault c.in-Err.conn c.in-Err.ensures.err, refl)
@@ -33,7 +33,7 @@ pub returns-in-Err-clause-clean : goal.returns-in-Err-clause-clean
 returns-in-Err-clause-clean g c = c.in-Err.ensures.err.clean
 
 pub returns-in-Ok-clause-shield : goal.returns-in-Ok-clause-shield
-returns-in-Ok-clause-shield g c = shield_closed g.S.Store c.args.conn c.resume_at-exit.new.desk.held c.close.result c.close.ensures.same (λ shielded. c.resume_at-exit.ensures.rest.shield (c.in-Ok.ensures.ok.shield shielded))
+returns-in-Ok-clause-shield g c = shield_closed g.S.Store c.args.conn c.resume_at-exit.new.desk.connection c.close.result c.close.ensures.same (λ shielded. c.resume_at-exit.ensures.rest.shield (c.in-Ok.ensures.ok.shield shielded))
 
 pub returns-in-Err-clause-shield : goal.returns-in-Err-clause-shield
 returns-in-Err-clause-shield g c = c.in-Err.ensures.err.shield

@@ -14,7 +14,7 @@ returns-in-Ok-clause-ends g c =
 
 pub returns-in-Ok-clause-clean : goal.returns-in-Ok-clause-clean
 returns-in-Ok-clause-clean g c =
-    clean_closed g.S.Store c.args.conn c.serve_at-exit.new.desk.held c.close.result c.close.ensures.same (λ clean. c.in-Ok.ensures.ok.clean (clean_served g.S.Store c.args.port c.args.count c.in-Ok.desk c.serve_at-exit.new.desk _ _ _ c.serve_at-exit.ensures clean))
+    clean_closed g.S.Store c.args.conn c.serve_at-exit.new.desk.connection c.close.result c.close.ensures.same (λ clean. c.in-Ok.ensures.ok.clean (clean_served g.S.Store c.args.port c.args.count c.in-Ok.desk c.serve_at-exit.new.desk _ _ _ c.serve_at-exit.ensures clean))
 
 pub returns-in-Err-clause-ends : goal.returns-in-Err-clause-ends
 returns-in-Err-clause-ends g c = inl (c.in-Err.fault, refl, unopened g.S.Store c.args.conn c.in-Err.fault c.in-Err.conn c.in-Err.ensures.err, refl)
@@ -24,7 +24,7 @@ returns-in-Err-clause-clean g c = c.in-Err.ensures.err.clean
 
 pub returns-in-Ok-clause-shield : goal.returns-in-Ok-clause-shield
 returns-in-Ok-clause-shield g c =
-    shield_closed g.S.Store c.args.conn c.serve_at-exit.new.desk.held c.close.result c.close.ensures.same
+    shield_closed g.S.Store c.args.conn c.serve_at-exit.new.desk.connection c.close.result c.close.ensures.same
     (λ shielded. shield_served g.S.Store c.args.port c.args.count c.in-Ok.desk c.serve_at-exit.new.desk _ _ _ c.serve_at-exit.ensures (c.in-Ok.ensures.ok.shield shielded))
 
 pub returns-in-Err-clause-shield : goal.returns-in-Err-clause-shield

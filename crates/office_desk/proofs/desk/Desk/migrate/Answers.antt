@@ -5,7 +5,7 @@ use Rattle.office_desk.proofs.desk.Desk.migrate.Goals as goal
 
 pub returns-then-version-ne1-clause-ok : goal.returns-then-version-ne1-clause-ok
 returns-then-version-ne1-clause-ok g c =
-    over_store g.S.Store c.args.machine c.args.store c.new.result c.new.ensures.open c.new.ensures.office c.new.ensures.held
+    over_store g.S.Store c.args.machine c.args.store c.new.result c.new.ensures.open c.new.ensures.office c.new.ensures.connection
     (λ rest.
     let reported : pos c.version.result ≡ pos 1 = c.version.ensures.rest schema_version.One rest in
     let one : c.version.result ≡ 1 = cc in
@@ -14,7 +14,7 @@ returns-then-version-ne1-clause-ok g c =
 
 pub returns-in-Ok-clause-ok : goal.returns-in-Ok-clause-ok
 returns-in-Ok-clause-ok g c =
-    over_moved g.S.Store c.args.machine c.args.store c.migrate.new.self c.new-in-Ok.result c.new-in-Ok.ensures.open c.new-in-Ok.ensures.office c.new-in-Ok.ensures.held
+    over_moved g.S.Store c.args.machine c.args.store c.migrate.new.self c.new-in-Ok.result c.new-in-Ok.ensures.open c.new-in-Ok.ensures.office c.new-in-Ok.ensures.connection
     (λ rest.
     let two : pos c.version.result ≡ pos 2 = c.version.ensures.rest schema_version.Two rest in
     let one : c.version.result ≡ 1 = search rules in
