@@ -59,6 +59,7 @@ pub record Takes (s : State) (reported : Answer) (t : State) : Type 0 where
 pub record Closes (s : State) (reported : Answer) (t : State) : Type 0 where
   pub run : ℕ
   pub open_is : open_run s.office ≡ Some run
+  pub none_next : next_ready s.office run ≡ None
   pub answered : reported ≡ answer.RunClosed run
   pub is : t ≡ closed s run
 
@@ -98,7 +99,7 @@ added s day new None =
 -- ---- a step of a run
 
 next_kind : (s : State) (run : ℕ) (next : Option ℕ) → open_run s.office ≡ Some run → next_ready s.office run ≡ next → Kind s act.RunStep (answer_at s.office run next) (step_at s run next)
-next_kind s run None open_is e = closes (record { run = run; open_is = open_is; answered = refl; is = refl })
+next_kind s run None open_is e = closes (record { run = run; open_is = open_is; none_next = e; answered = refl; is = refl })
 next_kind s run (Some r) open_is e = takes (record { run = run; open_is = open_is; r = r; next = e; answered = refl; is = refl })
 
 run_kind : (s : State) (o : Option ℕ) → open_run s.office ≡ o → Kind s act.RunStep (stepped ((NoRun, is_none o) ∷ []) s (answer_in s.office o) (step_of s o)).0 (stepped ((NoRun, is_none o) ∷ []) s (answer_in s.office o) (step_of s o)).1

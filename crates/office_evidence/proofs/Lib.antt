@@ -7,6 +7,9 @@ pub mod Adding
 pub mod Warrants
 pub mod Openings
 pub mod TrueLines
+pub mod Passing
+pub mod Completing
+pub mod SpentLines
 pub mod WellFormed
 pub mod Truths
 pub mod Joining
