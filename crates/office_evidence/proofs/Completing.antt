@@ -1,6 +1,6 @@
 -- A run comes to each record, and takes each that is ready then.
 use Rattle.std.proofs.Common.{◌≡◌, ◌⊎◌, inl, inr, ℕ, zero, suc, ◌+◌, ◌<◌, ◌≤◌, ◌≤ℤ◌, ◌&&◌, ℤ, Bool, true, false, List, length, Option, Some, None, refl, sym, ap, subst, ◌∙◌, arith, unwrap_or, option_map, pos, int_le}
-use Rattle.std.specs.Prelude.{IsTrue, slice_get}
+use Rattle.std.specs.Prelude.{slice_get}
 use Rattle.std.proofs.lemmas.Bool.{and_from, cases_lt}
 use Rattle.std.proofs.lemmas.Int.{ints}
 use Rattle.office_records.specs.Disposal.{counts, is_disposal}
@@ -27,12 +27,11 @@ use Rattle.office_rules.specs.declared.run.Run.{Run}
 use Rattle.office_rules.proofs.Candidates.{next_is_least, none_is_candidate}
 use Rattle.office_rules.proofs.SoundMaps.{one_there}
 use Rattle.office_evidence.specs.History.{AreWellFormed, IsStepAt, before}
-use Rattle.office_evidence.specs.Truth.{CameTo, IsBetween, IsWarranted, WasDue, WasReady, WasReceived}
-use Rattle.office_evidence.proofs.Lasting.{HasRun}
-use Rattle.office_evidence.proofs.Openings.{IsRun, after_opening, has_run, is_closed, is_this}
+use Rattle.office_evidence.specs.Truth.{CameTo, IsBetween, IsWarranted, WasDue, WasReady}
+use Rattle.office_evidence.proofs.Openings.{IsRun, after_opening, has_run, is_this}
 use Rattle.office_evidence.proofs.Passing.{DidPass, HasPassed, passed_comes}
 use Rattle.office_evidence.proofs.Places.{answered_at, came, sound_at}
-use Rattle.office_evidence.proofs.TrueLines.{IsStep, step_is}
+use Rattle.office_evidence.proofs.TrueLines.{step_is}
 
 -- ---- what is ready
 

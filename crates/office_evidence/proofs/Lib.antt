@@ -12,6 +12,7 @@ pub mod Completing
 pub mod SpentLines
 pub mod WellFormed
 pub mod Truths
+pub mod TrueEntries
 pub mod Joining
 pub mod ReadWords
 pub mod DueWords
@@ -20,3 +21,4 @@ pub mod Picking
 pub mod Kept
 pub mod Chains
 pub mod CertificateTexts
+pub mod KeptTexts

@@ -6,7 +6,6 @@ use Rattle.office_rules.specs.Acts.{step}
 use Rattle.office_rules.specs.Disposing.{entry_of}
 use Rattle.office_rules.specs.Effects.{new_run}
 use Rattle.office_rules.specs.Runs.{closed, cursor_of, with_outcomes}
-use Rattle.office_rules.specs.Sound.{IsSound}
 use Rattle.office_rules.specs.State.{State}
 use Rattle.office_rules.specs.declared.act.Act.{Act}
 use Rattle.office_rules.specs.declared.entry.Entry.{Entry}
@@ -15,7 +14,7 @@ use Rattle.office_rules.proofs.OpenRun.{cursor_moved}
 use Rattle.office_rules.proofs.Places.{numbered_same}
 use Rattle.office_rules.proofs.SoundMaps.{edited_elsewhere, same_or_not}
 use Rattle.office_rules.proofs.SoundRuns.{open_there}
-use Rattle.office_evidence.proofs.ActKinds.{Takes, kind_of}
+use Rattle.office_evidence.proofs.ActKinds.{kind_of}
 use Rattle.office_evidence.proofs.ActKinds.Kind.{adds, closes, opens, quiet, takes}
 use Rattle.office_evidence.proofs.Coming.{DidTake, taken_by}
 use Rattle.office_evidence.proofs.Places.{Comes}

@@ -1,11 +1,10 @@
 -- The last lines of a run's certificate are those of the aggregations that the run spent.
-use Rattle.std.proofs.Common.{◌≡◌, ℕ, ◌<◌, ◌≤◌, ℤ, List, [], ◌∷◌, map, length, Option, Some, refl, sym, ap, subst, ◌∙◌, unwrap_or, option_map}
+use Rattle.std.proofs.Common.{◌≡◌, ℕ, ℤ, List, [], ◌∷◌, map, Option, refl, sym, ap, subst, unwrap_or, option_map}
 use Rattle.std.specs.Prelude.{IsTrue}
 use Rattle.std.specs.List.{Contains}
 use Rattle.std.specs.List.Sorted.{IsStrictlySortedBy}
 use Rattle.std.specs.Ordering.{nat_cmp}
 use Rattle.office_records.specs.Disposal.{is_below}
-use Rattle.office_records.specs.Lists.{numbered}
 use Rattle.office_records.specs.Tree.{TreeState, has_record}
 use Rattle.office_records.specs.declared.aggregation.Aggregation.{Aggregation}
 use Rattle.office_rules.specs.Outcomes.{is_ending}

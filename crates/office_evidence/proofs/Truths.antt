@@ -54,6 +54,18 @@ text_by s run day by it there on_day opened =
     let by_is : opened_by s run ≡ by = ap (λ (o : Option Run). unwrap_or (option_map (λ it. it.by) o) []) there ∙ opened in
     λ i. certificate_text s.tree run (day_is i) (by_is i) (entries_of s run) (spent_list s.tree (entries_of s run))
 
+-- and it is the text of the run's view
+pub text_of_run : (s : State) (run : ℕ) (day : ℤ) (by : List ℕ) → IsSound s → HasRun run day by s
+    → IsTextOf (view_of s.office.tree run day by (entries_of s.office run) (spent_list s.office.tree (entries_of s.office run))) (certificate_of s.office run)
+text_of_run s run day by sound has =
+    let within = numbered_within s.office.runs run has.it has.there in
+    record {
+      formed = view_formed s run sound day by has within.1;
+      same =
+          text_by s.office run day by has.it has.there has.on_day has.opened_by
+          ∙ same_text s.office.tree run day by (entries_of s.office run) (spent_list s.office.tree (entries_of s.office run)) (heads_there s run sound) (spent_there s run sound);
+    }
+
 module _ (s : State) (acts : List Act) (sound : IsSound s) (formed : AreWellFormed acts) (run : ℕ) (text : List ℕ) (it : IsRun s acts sound formed run text) where
   -- the state in which the run is closed
   abbrev last : State
@@ -69,16 +81,7 @@ module _ (s : State) (acts : List Act) (sound : IsSound s) (formed : AreWellForm
   last_run = has_run s acts sound formed run text it it.closing it.in_order
 
   is_text : IsTextOf view text
-  is_text =
-      let has = last_run in
-      let within = numbered_within last.office.runs run has.it has.there in
-      record {
-        formed = view_formed last run last_sound it.opens.day it.opens.by has within.1;
-        same =
-            it.close.is
-            ∙ text_by last.office run it.opens.day it.opens.by has.it has.there has.on_day has.opened_by
-            ∙ same_text last.office.tree run it.opens.day it.opens.by (entries_of last.office run) (spent_list last.office.tree (entries_of last.office run)) (heads_there last run last_sound) (spent_there last run last_sound);
-      }
+  is_text = subst (IsTextOf view) (sym it.close.is) (text_of_run last run it.opens.day it.opens.by last_sound last_run)
 
   -- the first state has fewer runs
   later_than : length s.office.runs < run

@@ -15,15 +15,18 @@ use Rattle.office_records.specs.declared.action.Action.{Action}
 use Rattle.office_records.specs.declared.action.Action.TheVariants as action
 use Rattle.office_records.specs.declared.aggregation.Aggregation.{Aggregation}
 use Rattle.office_records.specs.declared.head.Confirmation.{Confirmation}
+use Rattle.office_records.specs.declared.head.Record.{Record}
 use Rattle.office_records.specs.declared.status.Status.TheVariants.{Here, Received}
 use Rattle.office_rules.specs.Acts.{answers}
 use Rattle.office_rules.specs.Disposing.{hold_by}
 use Rattle.office_rules.specs.Holds.{is_held, least_covering}
 use Rattle.office_rules.specs.NewRecords.{NewRecord, add_record}
 use Rattle.office_rules.specs.Outcomes.{is_ending}
+use Rattle.office_rules.specs.Runs.{open_run}
 use Rattle.office_rules.specs.State.{State, Office}
 use Rattle.office_rules.specs.declared.act.Act.{Act}
 use Rattle.office_rules.specs.declared.answer.Answer.TheVariants.{Number}
+use Rattle.office_rules.specs.declared.entry.Entry.{Entry}
 use Rattle.office_rules.specs.declared.outcome.Outcome.{Outcome}
 use Rattle.office_rules.specs.declared.outcome.Outcome.TheVariants.{Destroyed, Transferred, Sent, Skipped}
 use Rattle.office_evidence.specs.History.{IsClosedAt, IsOpenedAt, IsStepAt, before}
@@ -74,6 +77,14 @@ pub record WasAdded (s : State) (acts : List Act) (line : EntryLine) : Type 0 wh
   pub size : length new.content ≡ line.length
   pub digest : sha256 new.content ≡ line.digest
 
+-- the ref is the record's, and so are the length and the digest of its content
+pub record IsRecorded (tree : TreeState) (line : EntryLine) : Type 0 where
+  pub head : Record
+  pub there : numbered tree.records line.record_no ≡ Some head
+  pub ref_text : head.ref_text ≡ line.ref_text
+  pub size : head.length ≡ line.length
+  pub digest : head.digest ≡ line.digest
+
 -- its content was there just before the step, and from the step on it is gone
 pub record HasGone (s : State) (acts : List Act) (j r : ℕ) : Type 0 where
   pub was : IsSome (get (before s acts j).contents r)
@@ -96,7 +107,9 @@ pub record IsTrueLine (s : State) (acts : List Act) (day : ℤ) (j : ℕ) (line 
       (least_covering (before s acts j).office.holds (before s acts j).office.tree line.record_no)
   -- the content of what was ended is gone since
   pub content : IsTrue (is_ending line.outcome) → HasGone s acts j line.record_no
-  -- ref, length and digest are those with which a record that is later than the first state was added
+  -- ref, length and digest are those of the record
+  pub recorded : IsRecorded (before s acts j).office.tree line
+  -- and those with which an act added it, if it is later than the first state
   pub added : length s.office.tree.records < line.record_no → WasAdded s (take j acts) line
 
 -- ---- a certificate
@@ -187,3 +200,30 @@ pub record IsTrueCertificate (s : State) (acts : List Act) (run : ℕ) (text : L
   pub reads : IsTextOf certificate text
   pub of_run : certificate.run ≡ run
   pub is_true : IsTrueOf s acts certificate text
+
+-- ---- an entry
+
+-- the line says what the entry says
+pub record IsLineOf (e : Entry) (line : EntryLine) : Type 0 where
+  pub record_no : line.record_no ≡ e.record_no
+  pub outcome : line.outcome ≡ e.outcome
+  pub class : line.class ≡ e.class
+  pub schedule : line.schedule ≡ e.schedule
+  pub due : line.due ≡ e.due
+  pub hold : line.hold ≡ e.hold
+  pub confirmed_by : line.confirmed_by ≡ e.confirmed_by
+
+-- the entry of a run for a record is true of the acts from a state on, also while the run is open: one of the acts opened
+-- the run, a later one was a step of the run, which took the record, and a line that says the same is true of that step
+pub record IsTrueEntry (s : State) (acts : List Act) (run r : ℕ) (e : Entry) : Type 0 where
+  pub opening : ℕ
+  pub day : ℤ
+  pub by : List ℕ
+  pub opened : IsOpenedAt s acts opening run day by
+  pub place : ℕ
+  pub in_order : opening < place
+  pub of_run : open_run (before s acts place).office ≡ Some run
+  pub keyed : (e.run ≡ run) × (e.record_no ≡ r)
+  pub line : EntryLine
+  pub same : IsLineOf e line
+  pub is_true : IsTrueLine s acts day place line
