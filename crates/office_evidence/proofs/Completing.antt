@@ -68,7 +68,7 @@ pub was_destroyed : (s : Office) (r : ℕ) (day : ℤ) (o : Outcome) → WasDue 
 was_destroyed s r day outcome.Destroyed due free is = refl
 was_destroyed s r day outcome.Transferred due free is = let no : status.Here ≡ status.Received = one_there (status_of s.tree r) status.Here status.Received due.here is.0.status in absurd cc
 was_destroyed s r day outcome.Sent due free is = let no : action.Destroy ≡ action.Transfer = one_there (action_of s.tree r) action.Destroy action.Transfer due.action is.action in absurd cc
-was_destroyed s r day outcome.Skipped due free is = let no : false ≡ true = sym free ∙ is in absurd cc
+was_destroyed s r day outcome.Skipped due free is = let no : false ≡ true = sym free ∙ is.1 in absurd cc
 
 -- ---- a place at which the run comes to a record
 

@@ -55,12 +55,14 @@ pub record WasReceived (tree : TreeState) (r : ℕ) : Type 0 where
   pub status : status_of tree r ≡ Some Received
   pub receipt : IsSome (option_and_then (λ head. head.receipt) (numbered tree.records r))
 
--- what the outcome of a step rests on: nothing is ended while a hold covers it
+-- what the outcome of a step rests on: nothing is ended while a hold covers it, and only a hold keeps what was to be
+-- ended
 abbrev pub IsWarranted : Office → ℤ → ℕ → Outcome → Type 0
 IsWarranted s day r Destroyed = WasDue s.tree r day action.Destroy × (is_held s.holds s.tree r ≡ false)
 IsWarranted s day r Transferred = WasReceived s.tree r × (is_held s.holds s.tree r ≡ false)
 IsWarranted s day r Sent = WasDue s.tree r day action.Transfer
-IsWarranted s day r Skipped = is_held s.holds s.tree r ≡ true
+IsWarranted s day r Skipped =
+    (WasDue s.tree r day action.Destroy ⊎ WasReceived s.tree r) × (is_held s.holds s.tree r ≡ true)
 
 -- a run of that day was to take the record: it was due for destruction or for transfer, or its copy was received
 abbrev pub WasReady : TreeState → ℕ → ℤ → Type 0
@@ -99,7 +101,7 @@ pub record IsTrueLine (s : State) (acts : List Act) (day : ℤ) (j : ℕ) (line 
   pub schedule : plan_of (before s acts j).office.tree line.record_no ≡ Some line.schedule
   -- it was confirmed by the one named, for the day named
   pub confirmed : IsConfirmed (before s acts j).office.tree line
-  -- it was due and confirmed, or received, and no hold in force covered what was ended
+  -- it was due and confirmed, or received; no hold in force covered what was ended, and one covered what was skipped
   pub warranted : IsWarranted (before s acts j).office day line.record_no line.outcome
   -- the hold that kept a skipped record is the least that covered it
   pub hold : line.hold
@@ -213,8 +215,8 @@ pub record IsLineOf (e : Entry) (line : EntryLine) : Type 0 where
   pub hold : line.hold ≡ e.hold
   pub confirmed_by : line.confirmed_by ≡ e.confirmed_by
 
--- the entry of a run for a record is true of the acts from a state on, also while the run is open: one of the acts opened
--- the run, a later one was a step of the run, which took the record, and a line that says the same is true of that step
+-- the entry of a run for a record is true of the acts from a state on, also while the run is open: one of the acts
+-- opened the run, a later one was a step of the run, and a line that says the same is true of that step
 pub record IsTrueEntry (s : State) (acts : List Act) (run r : ℕ) (e : Entry) : Type 0 where
   pub opening : ℕ
   pub day : ℤ
