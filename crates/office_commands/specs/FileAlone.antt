@@ -1,18 +1,20 @@
 -- What a run of the program that exited leaves in FILE, without its log. Source: own.
-use Rattle.std.specs.Prelude.{◌≡◌, ◌≢◌, ◌⊎◌, ◌<◌, ℕ, List, [], Option, Some}
+use Rattle.std.specs.Prelude.{◌≡◌, ◌≢◌, ◌⊎◌, ◌<◌, ℕ, IsTrue, List, [], Option, Some}
 use Rattle.sqlite_disk.specs.declared.Disk.{Ghosts}
 use Rattle.sqlite_disk.specs.declared.Files.{Files}
 use Rattle.sqlite_store.specs.FileStore.{faults}
+use Rattle.sqlite_store.specs.declared.store.FileStore.{FileStore}
 use Rattle.sqlite_trees.specs.declared.error.StoreError.TheVariants as store
 use Rattle.sqlite_wal.specs.Files.{outcomes}
 use Rattle.sqlite_wal.specs.Recovery.{Image}
-use Rattle.sqlite.specs.Files.{image_of}
+use Rattle.sqlite.specs.Files.{file_state, image_of}
+use Rattle.sqlite.specs.Held.{Held}
 use Rattle.office_rules.specs.State.{State}
 use Rattle.office_store.specs.declared.fault.Fault.{Fault}
 use Rattle.office_command_line.specs.Orders.{Command}
 use Rattle.office_commands.specs.Damage.{IsLeftClean}
-use Rattle.office_commands.specs.Files.{RunsInFiles, ServesInFiles}
-use Rattle.office_commands.specs.NextCommand.{ContainOffice, IsLeftBy, IsServedTo}
+use Rattle.office_commands.specs.Files.{IsClosedCopy, IsLeftOf, RunsInFiles}
+use Rattle.office_commands.specs.NextCommand.{ContainOffice, IsLeftBy}
 use Rattle.office_commands.specs.OpenResult.{OpenResult}
 use Rattle.office_commands.specs.declared.exit.Exit.{Exit}
 use Rattle.office_commands.specs.declared.exit.Exit.TheVariants as how
@@ -44,6 +46,13 @@ module _ {D : Type 0} {g : Ghosts D} where
   IsHindered (files.Closed it) = ⊥
   IsHindered (files.Unclosed last why) = (0 < faults last) ⊎ (why ≡ store.OutOfMemory)
 
+-- a connection was closed that was open until then: its last commit is in FILE alone
+abbrev pub ClosingLeavesFileAlone : {D : Type 0} → Ghosts D → Type 0
+ClosingLeavesFileAlone {D} g =
+    (last : Held (FileStore D g)) (left : FilesLeft D g) → IsLeftOf last left → IsLeftClean left
+    → IsTrue (file_state last).is_open
+    → ((it : Files D) × (left ≡ files.Closed it) × IsClosedCopy last it) ⊎ IsHindered left
+
 -- a command exited by itself: FILE alone contains every act
 abbrev pub CommandLeavesFileAlone : {D : Type 0} → Ghosts D → Type 0
 CommandLeavesFileAlone {D} g =
@@ -52,11 +61,3 @@ CommandLeavesFileAlone {D} g =
     → ContainOffice image s → RunsInFiles left image opened order (Some text) written after exit
     → IsFaultless exit → IsLeftClean left
     → IsInFileAlone (IsLeftBy order text written after exit s) left ⊎ IsHindered left
-
--- and so did a service
-abbrev pub ServiceLeavesFileAlone : {D : Type 0} → Ghosts D → Type 0
-ServiceLeavesFileAlone {D} g =
-    (image : Image) (s : State) (port count : ℕ) (written after : Option (List ℕ)) (exit : Exit)
-    (opened : OpenResult g) (left : FilesLeft D g)
-    → ContainOffice image s → ServesInFiles left image opened port count written after exit
-    → IsFaultless exit → IsLeftClean left → IsInFileAlone (IsServedTo s) left ⊎ IsHindered left

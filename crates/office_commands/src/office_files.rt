@@ -1,6 +1,6 @@
 //! The file of an office, by what the database returned as it opened it: a command is run on the office in
 //! it, and it is closed.
-ghost use Rattle.std.specs.Prelude.{◌≡◌, ℕ, Err, IsTrue, List, Some};
+ghost use Rattle.std.specs.Prelude.{◌≡◌, ℕ, Err, IfErr, IfSome, IsTrue, List, Some};
 ghost use Rattle.sqlite_std_file.specs.File.{IsFresh};
 ghost use Rattle.sqlite_trees.specs.Tree.{Trees};
 ghost use Rattle.sqlite_wal.specs.Files.{image_at};
@@ -10,6 +10,7 @@ ghost use Rattle.office_command_line.specs.Orders.{apply, command};
 ghost use Rattle.office_commands.specs.Calling.{Exits};
 ghost use Rattle.office_commands.specs.Files.{AppliesInFiles, IsLeftOf, IsLeftShielded, RunsInFiles};
 ghost use Rattle.office_commands.specs.OpenResult.{IsOpenResult};
+ghost use Rattle.office_commands.specs.Tables.{SparesTables};
 ghost use Rattle.office_commands.specs.declared.office_files.FilesLeft.TheVariants as files;
 
 use crate::apply::apply_text;
@@ -79,6 +80,17 @@ pub(crate) fn close<D: Disk + Drop>(conn: Connection<FileStore<D>>) -> FilesLeft
     }
 }
 
+/// What is left of files that the database refused: they keep the tables that they held.
+pub(crate) fn refuse<S: Start>(
+    refused: (Error, Option<Leftover<FileFrom<S>>>),
+) -> FilesLeft<FileFrom<S>>
+    requires { IsOpenResult IsFresh (image_at S.Start) (Err refused) }
+    ensures given { result ≡ files.Unopened refused.1 }
+    ensures kept { IfSome refused.1 (λ left. SparesTables (image_at S.Start) left) }
+{
+    FilesLeft::Unopened(refused.1)
+}
+
 /// Runs a command on the office in a file, as [`run_on`] does, over the connection with which the
 /// database opened the file, and closes the file. It gives the exit status, and what is left of the
 /// file, which is shut when that is dropped. If the database refused the file, as one that is no
@@ -96,8 +108,8 @@ pub fn run_opened<S: Start, R: Read, W: Write, E: Write>(
 ) -> (u8, FilesLeft<FileFrom<S>>)
     requires { IsOpenResult IsFresh (image_at S.Start) opened }
     // A refused file is left as the database gave it back: status 3, with nothing written.
-    ensures refused { (e : _) → opened ≡ Err e → (result.0 ≡ 3)
-        × (result.1 ≡ files.Unopened e.1) × (W.contents out.new ≡ W.contents out.old) }
+    ensures refused { IfErr opened (λ e. (result.0 ≡ 3) × (result.1 ≡ files.Unopened e.1)
+        × (W.contents out.new ≡ W.contents out.old)) }
 
     // Over the connection the command is run, and it is closed.
     ensures runs { Exits result.0 (RunsInFiles result.1 (image_at S.Start) opened
@@ -110,10 +122,10 @@ pub fn run_opened<S: Start, R: Read, W: Write, E: Write>(
             law_of_the_last_commit(&conn);
             (status, close(conn))
         }
-        Err((_, left)) => {
+        Err(refused) => {
             let exit = Exit::Fault(Fault::Store);
             let _ = report(exit, err);
-            (exit.status(), FilesLeft::Unopened(left))
+            (exit.status(), refuse(refused))
         }
     }
 }
@@ -130,8 +142,8 @@ pub fn apply_opened<S: Start, W: Write>(
 ) -> (Exit, FilesLeft<FileFrom<S>>)
     requires { IsOpenResult IsFresh (image_at S.Start) opened }
     // A refused file is left as the database gave it back: fault 31, with nothing written.
-    ensures refused { (e : _) → opened ≡ Err e → (result.0 ≡ Exit.Fault Fault.Store)
-        × (result.1 ≡ files.Unopened e.1) × (W.contents out.new ≡ W.contents out.old) }
+    ensures refused { IfErr opened (λ e. (result.0 ≡ Exit.Fault Fault.Store)
+        × (result.1 ≡ files.Unopened e.1) × (W.contents out.new ≡ W.contents out.old)) }
 
     // The acts of the text are done in order and their answers written; or none is done.
     ensures applies { AppliesInFiles result.1 (image_at S.Start) opened text.now
@@ -148,6 +160,6 @@ pub fn apply_opened<S: Start, W: Write>(
             law_of_the_last_commit(&conn);
             (exit, close(conn))
         }
-        Err((_, left)) => (Exit::Fault(Fault::Store), FilesLeft::Unopened(left)),
+        Err(refused) => (Exit::Fault(Fault::Store), refuse(refused)),
     }
 }

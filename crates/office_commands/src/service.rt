@@ -1,5 +1,5 @@
 //! The office in a file, served over TCP.
-ghost use Rattle.std.specs.Prelude.{◌≡◌, Err, false};
+ghost use Rattle.std.specs.Prelude.{◌≡◌, IfErr, false};
 ghost use Rattle.sqlite_std_file.specs.File.{IsFresh};
 ghost use Rattle.sqlite_wal.specs.Files.{image_at};
 ghost use Rattle.sqlite.specs.Held.{state};
@@ -11,7 +11,7 @@ ghost use Rattle.office_commands.specs.declared.office_files.FilesLeft.TheVarian
 
 use crate::command::report_listening;
 use crate::exit::Exit;
-use crate::office_files::{FilesLeft, Opened, close, law_of_the_last_commit};
+use crate::office_files::{FilesLeft, Opened, close, law_of_the_last_commit, refuse};
 use office_desk::Desk;
 use office_store::Fault;
 use office_wire::{Routes, serve_each};
@@ -87,8 +87,8 @@ where
     L::Stream: Read + Write + OpenStream,
     requires { IsOpenResult IsFresh (image_at S.Start) opened }
     // A refused file is left as the database gave it back: fault 31, with nothing written.
-    ensures refused { (e : _) → opened ≡ Err e → (result.0 ≡ Exit.Fault Fault.Store)
-        × (result.1 ≡ files.Unopened e.1) × (W.contents out.new ≡ W.contents out.old) }
+    ensures refused { IfErr opened (λ e. (result.0 ≡ Exit.Fault Fault.Store)
+        × (result.1 ≡ files.Unopened e.1) × (W.contents out.new ≡ W.contents out.old)) }
 
     // Over the connection the office is served, and it is closed.
     ensures serves { ServesInFiles result.1 (image_at S.Start) opened port count
@@ -101,6 +101,6 @@ where
             law_of_the_last_commit(&conn);
             (exit, close(conn))
         }
-        Err((_, left)) => (Exit::Fault(Fault::Store), FilesLeft::Unopened(left)),
+        Err(refused) => (Exit::Fault(Fault::Store), refuse(refused)),
     }
 }
