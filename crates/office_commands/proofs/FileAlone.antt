@@ -33,29 +33,29 @@ use Rattle.office_commands.proofs.StaysOpen.{command_on}
 module _ {D : Type 0} {g : Ghosts D} where
   -- a connection that was open was closed, or its closing was hindered
   pub closed_or_hindered : (last : Held (FileStore D g)) (left : FilesLeft D g) → IsLeftOf last left → IsLeftClean left → IsTrue (file_state last).is_open
-      → ((it : Files D) × (left ≡ files.Closed it) × IsClosedCopy last it) ⊎ IsHindered left
-  closed_or_hindered last (files.Unopened rest) it clean on = absurd it
-  closed_or_hindered last (files.Closed it) copied clean on = inl (it, refl, copied clean)
-  closed_or_hindered last (files.Unclosed store why) it clean on = inr (hindered last store why on (it.failed clean))
+      → ((pair : Files D) × (left ≡ files.Closed pair) × IsClosedCopy last pair) ⊎ IsHindered left
+  closed_or_hindered last (files.Unopened rest) none clean on = absurd none
+  closed_or_hindered last (files.Closed pair) copied clean on = inl (pair, refl, copied clean)
+  closed_or_hindered last (files.Unclosed store why) unclosed clean on = inr (hindered last store why on (unclosed.failed clean))
 
   module _ (last : Held (FileStore D g)) (Is : State → Type 0) (at : (u : State) × Is u × IsOfficeAt (file_state last).committed.trees u) where
     alone : (image : Image) → HoldsAlone image (file_state last).committed.trees → FileContainsOffice image at.0
-    alone image it = record { trees = (file_state last).committed.trees; contained = it.alone; office = at.2 }
+    alone image held = record { trees = (file_state last).committed.trees; contained = held.alone; office = at.2 }
 
-    pub in_file : (left : FilesLeft D g) (it : Files D) → left ≡ files.Closed it → IsClosedCopy last it → IsInFileAlone Is left
-    in_file left it is copy = record {
-      it = it;
+    pub in_file : (left : FilesLeft D g) (pair : Files D) → left ≡ files.Closed pair → IsClosedCopy last pair → IsInFileAlone Is left
+    in_file left pair is copy = record {
+      pair = pair;
       closed = is;
       state = at.0;
       is = at.1;
-      now = alone (image_of g it) copy.copied.seen;
+      now = alone (image_of g pair) copy.copied.seen;
       after_a_crash = λ image may. alone image (copy.copied.left image may);
     }
 
 -- each command leaves its files so
 pub command_alone : IsOneDatabase → StaySound → IsEnded → {D : Type 0} {g : Ghosts D} (image : Image) (s : State) (order : Command) (text : List ℕ) (written after : Option (List ℕ)) (exit : Exit) (opened : OpenResult g) (left : FilesLeft D g)
     → ContainOffice image s → RunsInFiles left image opened order (Some text) written after exit → IsFaultless exit → IsLeftClean left → IsInFileAlone (IsLeftBy order text written after exit s) left ⊎ IsHindered left
-command_alone one stay ends image s order text written after exit (Err e) left contained it fine clean = absurd (fine.0 _ it.fault)
+command_alone one stay ends image s order text written after exit (Err e) left contained refused fine clean = absurd (fine.0 _ refused.fault)
 command_alone one stay ends image s order text written after exit (Ok was) left contained (last, over, is_left) fine clean =
     let ed = contained.office.schema_version in
     let office : ContainedOffice ed image contained.trees = record { contained = contained.contained; office = contained.office.office } in

@@ -63,11 +63,11 @@ module _ {D : Type 0} {g : Ghosts D} (image next : Image) (stage : Stage) (s : S
   abbrev GoesOnUnopened : FilesLeft D g → Type 0
   GoesOnUnopened left = IsKnownAt stage (remains_left left) → IsFoundNext left next → ∥ StandsAt (stage_after stage (remains_left left)) next s ∥₁
 
-  given_at : (back : Option (Leftover D g)) → IfSome back (λ it. SparesTables image it) → GoesOnUnopened (files.Unopened back)
-  given_at None spared known found = absurd found
-  given_at (Some it) spared known found = spared_at it spared known found
+  given_at : (back : Option (Leftover D g)) → IfSome back (SparesTables image) → GoesOnUnopened (files.Unopened back)
+  given_at None spared = λ known found. absurd found
+  given_at (Some rest) spared = λ known found. spared_at rest spared known found
 
-  refused_at : (back : Option (Leftover D g)) (left : FilesLeft D g) → left ≡ files.Unopened back → IfSome back (λ it. SparesTables image it) → GoesOnUnopened left
+  refused_at : (back : Option (Leftover D g)) (left : FilesLeft D g) → left ≡ files.Unopened back → IfSome back (SparesTables image) → GoesOnUnopened left
   refused_at back left is spared = subst GoesOnUnopened (sym is) (given_at back spared)
 
 -- ---- files that were opened
@@ -149,9 +149,9 @@ module _ (one : IsOneDatabase) (stay : StaySound) (empty : IsSound empty_state) 
     -- the run ended so, by what the database returned
     abbrev Came : OpenResult g → FilesLeft D g → Type 0
     Came (Ok was) left = (last : Held (FileStore D g)) × EndsOver left image (EndedSo run) was last × IsLeftOf last left
-    Came (Err e) left = SaysUnopened run × (left ≡ files.Unopened e.1) × IfSome e.1 (λ it. SparesTables image it)
+    Came (Err e) left = SaysUnopened run × (left ≡ files.Unopened e.1) × IfSome e.1 (SparesTables image)
 
-    not_opened : SaysUnopened run → (back : Option (Leftover D g)) (left : FilesLeft D g) → left ≡ files.Unopened back → IfSome back (λ it. SparesTables image it) → IsKnownAt stage (remains_left left) → IsFoundNext left next → RunLeads run stage image (stage_after stage (remains_left left)) next
+    not_opened : SaysUnopened run → (back : Option (Leftover D g)) (left : FilesLeft D g) → left ≡ files.Unopened back → IfSome back (SparesTables image) → IsKnownAt stage (remains_left left) → IsFoundNext left next → RunLeads run stage image (stage_after stage (remains_left left)) next
     not_opened says back left is spared known found s stands = ∥∥₁_map (refused_at image next stage s stands back left is spared known found) (λ (at : StandsAt (stage_after stage (remains_left left)) next s). (s, stays_at run s says, at))
 
     -- the stage is that of files that hold tables

@@ -45,11 +45,11 @@ module _ {D : Type 0} {g : Ghosts D} (old : Image) (s : State) (Is : State → T
   stays_office (leftover.Store it) spared whole = λ clean trees may.
       subst (λ (t : Trees). IsOfficeAt t s) (sym (∥∥₁_elim whole.contained (Trees-set _ _) (λ (h : ContainTables old whole.trees). (spared clean trees may).contained whole.trees h))) whole.office
 
-  some_stays : (rest : Option (Leftover D g)) → IfSome rest (λ it. SparesTables old it) → (ContainWholeOffice old s → IfSome rest (λ it. StaysOffice s it))
+  some_stays : (rest : Option (Leftover D g)) → IfSome rest (SparesTables old) → (ContainWholeOffice old s → IfSome rest (λ it. StaysOffice s it))
   some_stays None spared = λ whole. tt
   some_stays (Some rest) spared = λ whole. stays_office rest spared whole
 
-  pub refused_at : (back : Option (Leftover D g)) (left : FilesLeft D g) → left ≡ files.Unopened back → IfSome back (λ it. SparesTables old it) → LeavesFilesAt old s Is left
+  pub refused_at : (back : Option (Leftover D g)) (left : FilesLeft D g) → left ≡ files.Unopened back → IfSome back (SparesTables old) → LeavesFilesAt old s Is left
   refused_at back left is spared = subst (LeavesFilesAt old s Is) (sym is) (some_stays back spared)
 
   -- ---- of files that were closed, or not

@@ -1,5 +1,5 @@
 -- Damage is found: after its opening a run takes no wrong answer of the disk as true, or a digest collided. Source: own.
-use Rattle.std.specs.Prelude.{◌≡◌, ◌⊎◌, ℕ, List, Option, Result, Ok, Err}
+use Rattle.std.specs.Prelude.{◌≡◌, ◌⊎◌, ℕ, List, Option, Ok, Err}
 use Rattle.sqlite_disk.specs.declared.Disk.{Ghosts}
 use Rattle.sqlite_disk.specs.Events.{Event, HasCollision}
 use Rattle.sqlite_store.specs.FileStore.{files as two_files, is_shielded, view}

@@ -32,18 +32,18 @@ IsFaultless exit = ((f : Fault) → exit ≢ how.Fault f) × (exit ≢ how.File)
 module _ {D : Type 0} {g : Ghosts D} where
   -- the files were closed: FILE alone contains the office at a state of this kind, as it reads now and after any crash
   pub record IsInFileAlone (Is : State → Type 0) (left : FilesLeft D g) : Type 0 where
-    pub it : Files D
-    pub closed : left ≡ files.Closed it
+    pub pair : Files D
+    pub closed : left ≡ files.Closed pair
     pub state : State
     pub is : Is state
-    pub now : FileContainsOffice (image_of g it) state
-    pub after_a_crash : (image : Image) → outcomes g it.log it.db image → FileContainsOffice image state
+    pub now : FileContainsOffice (image_of g pair) state
+    pub after_a_crash : (image : Image) → outcomes g pair.log pair.db image → FileContainsOffice image state
 
   -- the files could not be closed: a call of the disk failed or a limit of the format was met since they were opened, or
   -- memory was refused as they were closed
   abbrev pub IsHindered : FilesLeft D g → Type 0
   IsHindered (files.Unopened left) = ⊥
-  IsHindered (files.Closed it) = ⊥
+  IsHindered (files.Closed pair) = ⊥
   IsHindered (files.Unclosed last why) = (0 < faults last) ⊎ (why ≡ store.OutOfMemory)
 
 -- a connection was closed that was open until then: its last commit is in FILE alone
@@ -51,7 +51,7 @@ abbrev pub ClosingLeavesFileAlone : {D : Type 0} → Ghosts D → Type 0
 ClosingLeavesFileAlone {D} g =
     (last : Held (FileStore D g)) (left : FilesLeft D g) → IsLeftOf last left → IsLeftClean left
     → IsTrue (file_state last).is_open
-    → ((it : Files D) × (left ≡ files.Closed it) × IsClosedCopy last it) ⊎ IsHindered left
+    → ((pair : Files D) × (left ≡ files.Closed pair) × IsClosedCopy last pair) ⊎ IsHindered left
 
 -- a command exited by itself: FILE alone contains every act
 abbrev pub CommandLeavesFileAlone : {D : Type 0} → Ghosts D → Type 0

@@ -1,5 +1,5 @@
 -- What is done with the office in a file, by what its two files held as they were opened. Source: own.
-use Rattle.std.specs.Prelude.{◌≡◌, ℕ, IfSome, IsTrue, List, Option, Result, Ok, Err}
+use Rattle.std.specs.Prelude.{◌≡◌, ℕ, IfSome, IsTrue, List, Option, Ok, Err}
 use Rattle.sqlite_disk.specs.declared.Disk.{Ghosts}
 use Rattle.sqlite_disk.specs.declared.Files.{Files}
 use Rattle.sqlite_store.specs.FileStore.{files as two_files, is_shielded, view}
@@ -95,7 +95,7 @@ pub record IsRefused {D : Type 0} {g : Ghosts D} (image : Image) (back : Option 
     (written after : Option (List ℕ)) (exit : Exit) : Type 0 where
   pub fault : exit ≡ how.Fault fault.Store
   pub given : left ≡ files.Unopened back
-  pub kept : IfSome back (λ it. SparesTables image it)
+  pub kept : IfSome back (SparesTables image)
   pub silent : after ≡ written
 
 -- what becomes of files that held this, by what the database returned as it opened them: so it ended over that

@@ -1,6 +1,6 @@
 -- What the database returns from the opening of two files. Source: own; `open_from` of the kit's `sqlite` ensures each
 -- field.
-use Rattle.std.specs.Prelude.{◌≡◌, ◌⊎◌, Bool, true, false, IfErr, IfOk, IfSome, Option, Result}
+use Rattle.std.specs.Prelude.{Bool, true, false, IfErr, IfOk, IfSome, Option, Result}
 use Rattle.sqlite_disk.specs.declared.Disk.{Ghosts}
 use Rattle.sqlite_disk.specs.declared.Files.{Files}
 use Rattle.sqlite_store.specs.declared.store.FileStore.{FileStore}
@@ -27,5 +27,5 @@ pub record IsOpenResult {D : Type 0} {g : Ghosts D} (IsFresh : Bool → D → Ty
   -- each later read is tested
   pub guarded : IfOk result (λ c. HasCleanDisk (file_state c) → (file_state c).IsShielded)
   -- else there is a cause, and what is left of the files keeps what they held
-  pub cause : IfErr result (λ e. IfSome e.1 (λ left. (it : Files D) × IsFresh true it.log × IsFresh false it.db
-      × (IsCleanLeft left → FailsToOpenFiles it left e.0 × LeavesFiles it left)))
+  pub cause : IfErr result (λ e. IfSome e.1 (λ left. (pair : Files D) × IsFresh true pair.log × IsFresh false pair.db
+      × (IsCleanLeft left → FailsToOpenFiles pair left e.0 × LeavesFiles pair left)))

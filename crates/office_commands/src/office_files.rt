@@ -86,7 +86,7 @@ pub(crate) fn refuse<S: Start>(
 ) -> FilesLeft<FileFrom<S>>
     requires { IsOpenResult IsFresh (image_at S.Start) (Err refused) }
     ensures given { result ≡ files.Unopened refused.1 }
-    ensures kept { IfSome refused.1 (λ left. SparesTables (image_at S.Start) left) }
+    ensures kept { IfSome refused.1 (SparesTables (image_at S.Start)) }
 {
     FilesLeft::Unopened(refused.1)
 }
