@@ -44,8 +44,9 @@ module _ {D : Type 0} {g : Ghosts D} (start : D → List ℕ) (calls : D → Lis
   abbrev pub IsCleanOrCollided : FilesLeft D g → Type 0
   IsCleanOrCollided left = IsLeftShielded left → IsLeftClean left ⊎ HasLeftCollided left
 
-  -- over the connection to files that held this it ended so: if no wrong answer was taken as true while they were opened,
-  -- none was to the end, or a digest collided; or the files were refused, which is fault 31, with nothing written
+  -- over the connection to files that held this it ended so: if no wrong answer was taken as true while they were
+  -- opened, none was to the end, or a digest collided; or the files were refused, which is fault 31, with nothing
+  -- written
   abbrev pub FindsDamage : FilesLeft D g → Image → OpenResult g
       → (Held (FileStore D g) → Held (FileStore D g) → Type 0) → Option (List ℕ) → Option (List ℕ) → Exit → Type 0
   FindsDamage left image (Ok was) Ends written after exit =

@@ -39,8 +39,8 @@ module _ {D : Type 0} {g : Ghosts D} where
     pub now : FileContainsOffice (image_of g pair) state
     pub after_a_crash : (image : Image) → outcomes g pair.log pair.db image → FileContainsOffice image state
 
-  -- the files could not be closed: a call of the disk failed or a limit of the format was met since they were opened, or
-  -- memory was refused as they were closed
+  -- the files could not be closed: a call of the disk failed or a limit of the format was met since they were opened,
+  -- or memory was refused as they were closed
   abbrev pub IsHindered : FilesLeft D g → Type 0
   IsHindered (files.Unopened left) = ⊥
   IsHindered (files.Closed pair) = ⊥

@@ -49,8 +49,8 @@ WasRun (ran_command order text written after exit) image opened left =
 WasRun (ran_service port count written after exit) image opened left =
     ServesInFiles left image opened port count written after exit
 
--- it was killed over files that held this and were opened as the first connection, once its last call had left the second;
--- it closed nothing, so nothing is said of files that it left
+-- it was killed over files that held this and were opened as the first connection, once its last call had left the
+-- second; it closed nothing, so nothing is said of files that it left
 abbrev pub WasKilled : {D : Type 0} {g : Ghosts D} → ProgramRun → Image → Held (FileStore D g) → Held (FileStore D g)
     → Type 0
 WasKilled (ran_command order text written after exit) image =

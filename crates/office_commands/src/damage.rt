@@ -6,10 +6,11 @@ use crate::office_files::FilesLeft;
 use sqlite_disk::{Calls, Modelled, Start};
 
 /// Over files whose calls are recorded ([`sqlite::FileFrom`] has them so): if the database took no
-/// wrong answer of the disk as true until it had opened the two files, a command or a service over its
-/// connection took none to its end, so that each of its promises holds; or a digest of 64 bits
-/// collided, under a key that is drawn as the files are opened. For each later read is tested against
-/// a digest. One that fails its test is a failed call, which is fault 31 if it is not made good.
+/// wrong answer of the disk as true until it had opened the two files, a command or a service over
+/// its connection took none to its end, so that each of its promises holds; or a digest of 64 bits
+/// collided, under a key that is drawn as the files are opened. For each later read is tested
+/// against a digest. One that fails its test is a failed call, which is fault 31 if it is not made
+/// good.
 ///
 /// It says nothing of damage before the opening or between two runs, of which the opening finds
 /// what makes the pages unsound, and nothing of bytes that no call reads again.

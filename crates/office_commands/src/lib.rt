@@ -1,13 +1,13 @@
 //! The commands on the office in a file: over a connection to it, and from the opening of the file
 //! to its closing.
 //!
-//! `command` runs one. `init` makes the office or opens it, `apply` does the acts of a JSON
-//! array, `resume` resumes the open run, `certificate` prints a certificate, `record_import` adds
-//! the records of a CSV file, and `export` writes a register. Each ends with an [`Exit`], what
-//! the program reports to the caller: the exit status, and the line on standard error.
-//! `office_files` runs a command on the office's file, by what the database returned as it opened the
-//! file, and closes it; `service` does so for a service. `next_command` has the law from one command
-//! over a file to the next, and `file_history` that of any number of them. `closed_file` says what the
+//! `command` runs one. `init` makes the office or opens it, `apply` does the acts of a JSON array,
+//! `resume` resumes the open run, `certificate` prints a certificate, `record_import` adds the
+//! records of a CSV file, and `export` writes a register. Each ends with an [`Exit`], what the
+//! program reports to the caller: the exit status, and the line on standard error. `office_files`
+//! runs a command on the office's file, by what the database returned as it opened the file, and
+//! closes it; `service` does so for a service. `next_command` has the law from one command over a
+//! file to the next, and `file_history` that of any number of them. `closed_file` says what the
 //! file contains without its log. `damage` says what is found where the disk returns something else
 //! than was written.
 #![tactic(auto)]

@@ -1,5 +1,5 @@
-//! The file of an office, by what the database returned as it opened it: a command is run on the office in
-//! it, and it is closed.
+//! The file of an office, by what the database returned as it opened it: a command is run on the
+//! office in it, and it is closed.
 ghost use Rattle.std.specs.Prelude.{◌≡◌, ℕ, Err, IfErr, IfSome, IsTrue, List, Some};
 ghost use Rattle.sqlite_std_file.specs.File.{IsFresh};
 ghost use Rattle.sqlite_trees.specs.Tree.{Trees};
@@ -26,8 +26,8 @@ use sqlite_trees::store::Store;
 use std::alloc::Global;
 use std::io::{Read, Write};
 
-/// What [`Connection::open_from`] returns: a connection to two files; or an error, and what is left of
-/// them, unless the system refused them.
+/// What [`Connection::open_from`] returns: a connection to two files; or an error, and what is left
+/// of them, unless the system refused them.
 pub type Opened<S> = Result<
     Connection<FileStore<FileFrom<S>>>,
     (Error, Option<Leftover<FileFrom<S>>>),
@@ -130,10 +130,10 @@ pub fn run_opened<S: Start, R: Read, W: Write, E: Write>(
     }
 }
 
-/// Does the acts of a text that is in memory already on the office in a file, as `apply` does those of
-/// its reader, over the connection with which the database opened the file, and closes the file, as
-/// [`run_opened`] does. So the text is in memory once. It gives how that ends, which is not reported
-/// yet, and what is left of the file.
+/// Does the acts of a text that is in memory already on the office in a file, as `apply` does those
+/// of its reader, over the connection with which the database opened the file, and closes the file,
+/// as [`run_opened`] does. So the text is in memory once. It gives how that ends, which is not
+/// reported yet, and what is left of the file.
 pub fn apply_opened<S: Start, W: Write>(
     alloc: Global,
     opened: Opened<S>,

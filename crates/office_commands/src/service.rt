@@ -69,10 +69,10 @@ where
     }
 }
 
-/// Serves the office in a file over the connection with which the database opened the file: reports on
-/// `out` where it is served, serves so many connections of a listener, and closes the file, as
-/// [`crate::run_opened`] does. It gives how that ends, which is not reported yet, and what is left of
-/// the file. The listener is bound to that port of this machine.
+/// Serves the office in a file over the connection with which the database opened the file: reports
+/// on `out` where it is served, serves so many connections of a listener, and closes the file, as
+/// [`crate::run_opened`] does. It gives how that ends, which is not reported yet, and what is left
+/// of the file. The listener is bound to that port of this machine.
 pub fn serve_opened<L: OpenListener, S: Start, W: Write, E: Write>(
     rt: &HostRuntime,
     routes: &Routes,
