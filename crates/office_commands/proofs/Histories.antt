@@ -1,5 +1,5 @@
 -- What an office's files stand for after any number of runs of the program, from no file on.
-use Rattle.std.proofs.Common.{◌≡◌, ◌⊎◌, ◌++◌, ◌∷◌, [], inl, inr, ℕ, IsTrue, List, Option, None, Some, refl, sym, subst, arith}
+use Rattle.std.proofs.Common.{◌≡◌, ◌⊎◌, ◌++◌, ◌∷◌, [], inl, inr, ℕ, IfSome, IsTrue, List, Option, None, Some, Ok, Err, refl, sym, subst, arith}
 use Rattle.std.proofs.Math.Logic.{∥∥₁_elim, ∥∥₁_map}
 use Rattle.sqlite_catalog.specs.Listing.{IsSound as IsSoundDatabase}
 use Rattle.sqlite_disk.specs.declared.Disk.{Ghosts}
@@ -8,6 +8,7 @@ use Rattle.sqlite_store.specs.FileStore.{recovers, view}
 use Rattle.sqlite_store.specs.declared.store.FileStore.{FileStore}
 use Rattle.sqlite_trees.specs.Tree.{Trees}
 use Rattle.sqlite_trees.specs.View.{IsClean}
+use Rattle.sqlite_trees.specs.declared.error.StoreError.{StoreError}
 use Rattle.sqlite_wal.specs.Reads.{AreClean}
 use Rattle.sqlite_wal.specs.Recovery.{Image}
 use Rattle.sqlite.specs.Files.{IsEmpty, file_state, over_files}
@@ -25,7 +26,8 @@ use Rattle.office_life.specs.Tables.{ContainTables}
 use Rattle.office_life.proofs.LeftTables.{database_of, leaves_tables}
 use Rattle.office_life.proofs.Nothing.{finds_nothing}
 use Rattle.office_commands.specs.FileHistory.{FileHistory, IsFoundNext, IsFoundOf, IsLeftAt, IsLeftKilled, ProgramRun, RunLeads, SaysUnopened, StateHistory, WasKilled, WasRun, began, led, ran_command, ran_service, remains_left, stayed, went_on}
-use Rattle.office_commands.specs.Files.{EndsOver, IsClosedCopy, IsLeftOf, IsOpenedFrom, IsUnclosed, IsUnopenedLeft}
+use Rattle.office_commands.specs.Files.{EndsOver, IsClosedCopy, IsLeftOf, IsOpenedFrom, IsUnclosed}
+use Rattle.office_commands.specs.OpenResult.{OpenResult}
 use Rattle.office_commands.specs.Running.{RunEnds}
 use Rattle.office_commands.specs.Serving.{ServiceEnds}
 use Rattle.office_commands.specs.Tables.{KeepsTables, SparesTables}
@@ -57,11 +59,16 @@ module _ {D : Type 0} {g : Ghosts D} (image next : Image) (stage : Stage) (s : S
   spared_at (leftover.Unopened it) spared known (clean, may) = kept_at image next (spared clean next may) stage s known stands
   spared_at (leftover.Store it) spared known found = absurd found
 
-  unopened_at : (left : FilesLeft D g) → IsUnopenedLeft image left → IsKnownAt stage (remains_left left) → IsFoundNext left next → ∥ StandsAt (stage_after stage (remains_left left)) next s ∥₁
-  unopened_at (files.Unopened None) spared known found = absurd found
-  unopened_at (files.Unopened (Some it)) spared known found = spared_at it spared known found
-  unopened_at (files.Closed it) none known found = absurd none
-  unopened_at (files.Unclosed store) none known found = absurd none
+  -- where the database gave that back
+  abbrev GoesOnUnopened : FilesLeft D g → Type 0
+  GoesOnUnopened left = IsKnownAt stage (remains_left left) → IsFoundNext left next → ∥ StandsAt (stage_after stage (remains_left left)) next s ∥₁
+
+  given_at : (back : Option (Leftover D g)) → IfSome back (SparesTables image) → GoesOnUnopened (files.Unopened back)
+  given_at None spared = λ known found. absurd found
+  given_at (Some rest) spared = λ known found. spared_at rest spared known found
+
+  refused_at : (back : Option (Leftover D g)) (left : FilesLeft D g) → left ≡ files.Unopened back → IfSome back (SparesTables image) → GoesOnUnopened left
+  refused_at back left is spared = subst GoesOnUnopened (sym is) (given_at back spared)
 
 -- ---- files that were opened
 
@@ -91,8 +98,8 @@ module _ {D : Type 0} {g : Ghosts D} (was last : Held (FileStore D g)) (Is : Sta
   closed_at : (it : Files D) → IsClosedCopy last it → (file_state last).may_leave (file_state last).committed.trees → ∥ ContainTables next (file_state last).committed.trees ∥₁ → GoesOn
   closed_at it copy stays contained = ∥∥₁_map contained (λ (h : ContainTables next (file_state last).committed.trees). goes_on copy.copied.was_clean (file_state last).committed.trees stays h)
 
-  unclosed_at : (store : FileStore D g) → IsUnclosed last store → IsFoundNext {g = g} (files.Unclosed store) next → GoesOn
-  unclosed_at store it (clean, known, may) =
+  unclosed_at : (store : FileStore D g) (why : StoreError) → IsUnclosed last store why → IsFoundNext {g = g} (files.Unclosed store why) next → GoesOn
+  unclosed_at store why it (clean, known, may) =
       let closed = it.closed in
       let numbered : IsTrue (view store).is_numbered = elim known [ inl on ↦ it.numbered clean on | inr is ↦ is ] in
       let doubted = closed.quiet.clean in
@@ -102,7 +109,7 @@ module _ {D : Type 0} {g : Ghosts D} (was last : Held (FileStore D g)) (Is : Sta
   pub left_at : (stays : IsTrue (file_state last).is_open → (file_state last).may_leave (file_state last).committed.trees) (left : FilesLeft D g) → IsLeftOf last left → IsFoundNext left next → GoesOn
   left_at stays (files.Unopened rest) it found = absurd it
   left_at stays (files.Closed it) copied (clean, may) = let copy = copied clean in closed_at it copy (stays copy.copied.was_open) (copy.left next may)
-  left_at stays (files.Unclosed store) it found = unclosed_at store it found
+  left_at stays (files.Unclosed store why) it found = unclosed_at store why it found
 
   -- where the process was killed
   pub killed_at : IsLeftKilled last next → AreDatabases (recovers last.store) → GoesOn
@@ -139,41 +146,45 @@ module _ (one : IsOneDatabase) (stay : StaySound) (empty : IsSound empty_state) 
       let at = service_from one stay empty ends over_files was last s clean rests port count written after exit ended db may in (at.0, inr at.1, at.2)
 
   module _ (run : ProgramRun) (stage : Stage) (image next : Image) where
-    not_opened : SaysUnopened run → (left : FilesLeft D g) → IsUnopenedLeft image left → IsKnownAt stage (remains_left left) → IsFoundNext left next → RunLeads run stage image (stage_after stage (remains_left left)) next
-    not_opened says left spared known found s stands = ∥∥₁_map (unopened_at image next stage s stands left spared known found) (λ (at : StandsAt (stage_after stage (remains_left left)) next s). (s, stays_at run s says, at))
+    -- the run ended so, by what the database returned
+    abbrev Came : OpenResult g → FilesLeft D g → Type 0
+    Came (Ok was) left = (last : Held (FileStore D g)) × EndsOver left image (EndedSo run) was last × IsLeftOf last left
+    Came (Err e) left = SaysUnopened run × (left ≡ files.Unopened e.1) × IfSome e.1 (SparesTables image)
+
+    not_opened : SaysUnopened run → (back : Option (Leftover D g)) (left : FilesLeft D g) → left ≡ files.Unopened back → IfSome back (SparesTables image) → IsKnownAt stage (remains_left left) → IsFoundNext left next → RunLeads run stage image (stage_after stage (remains_left left)) next
+    not_opened says back left is spared known found s stands = ∥∥₁_map (refused_at image next stage s stands back left is spared known found) (λ (at : StandsAt (stage_after stage (remains_left left)) next s). (s, stays_at run s says, at))
 
     -- the stage is that of files that hold tables
-    opened : (last : Held (FileStore D g)) (left : FilesLeft D g) → EndsOver left image (EndedSo run) last → IsLeftOf last left → IsFoundNext left next → RunLeads run stage image stored next
-    opened last left over is_left found s stands =
-        let rests = λ (clean : HasCleanDisk (file_state last)). rests_from image over.was last over.opened clean stage s stands in
-        left_at over.was last (IsLeftAt run s) (λ clean. leaves_so run over.was last s (rests clean) clean over.ends) next over.stays left is_left found
+    opened_so : (was last : Held (FileStore D g)) (left : FilesLeft D g) → EndsOver left image (EndedSo run) was last → IsLeftOf last left → IsFoundNext left next → RunLeads run stage image stored next
+    opened_so was last left over is_left found s stands =
+        let rests = λ (clean : HasCleanDisk (file_state last)). rests_from image was last over.opened clean stage s stands in
+        left_at was last (IsLeftAt run s) (λ clean. leaves_so run was last s (rests clean) clean over.ends) next over.stays left is_left found
 
     after_closing : (left : FilesLeft D g) (last : Held (FileStore D g)) → IsLeftOf last left → stage_after stage (remains_left left) ≡ stored
     after_closing (files.Unopened rest) last it = absurd it
     after_closing (files.Closed it) last copied = refl
-    after_closing (files.Unclosed store) last it = refl
+    after_closing (files.Unclosed store why) last it = refl
 
-    ended : (left : FilesLeft D g) → SaysUnopened run × IsUnopenedLeft image left ⊎ ((last : Held (FileStore D g)) × EndsOver left image (EndedSo run) last × IsLeftOf last left) → IsKnownAt stage (remains_left left) → IsFoundNext left next
-        → RunLeads run stage image (stage_after stage (remains_left left)) next
-    ended left (inl (says, spared)) known found = not_opened says left spared known found
-    ended left (inr (last, over, is_left)) known found = subst (λ (is : Stage). RunLeads run stage image is next) (sym (after_closing left last is_left)) (opened last left over is_left found)
+    ended : (opened : OpenResult g) (left : FilesLeft D g) → Came opened left → IsKnownAt stage (remains_left left) → IsFoundNext left next → RunLeads run stage image (stage_after stage (remains_left left)) next
+    ended (Ok was) left (last, over, is_left) known found = subst (λ (is : Stage). RunLeads run stage image is next) (sym (after_closing left last is_left)) (opened_so was last left over is_left found)
+    ended (Err e) left (says, is, spared) known found = not_opened says e.1 left is spared known found
 
-    killed : (last : Held (FileStore D g)) → EndsOver (files.Unopened None) image (EndedSo run) last → IsLeftKilled last next → RunLeads run stage image stored next
-    killed last over it s stands =
-        let rests = rests_from image over.was last over.opened it.clean stage s stands in
-        let leaves = leaves_so run over.was last s rests it.clean over.ends in
-        killed_at over.was last (IsLeftAt run s) (λ clean. leaves) next it (are_databases over.was last s (IsLeftAt run s) rests leaves)
+    killed : (was last : Held (FileStore D g)) → EndsOver (files.Unopened None) image (EndedSo run) was last → IsLeftKilled last next → RunLeads run stage image stored next
+    killed was last over it s stands =
+        let rests = rests_from image was last over.opened it.clean stage s stands in
+        let leaves = leaves_so run was last s rests it.clean over.ends in
+        killed_at was last (IsLeftAt run s) (λ clean. leaves) next it (are_databases was last s (IsLeftAt run s) rests leaves)
 
-  pub runs_lead : (run : ProgramRun) (stage : Stage) (image next : Image) (left : FilesLeft D g) → WasRun run image left → IsKnownAt stage (remains_left left) → IsFoundNext left next
+  pub runs_lead : (run : ProgramRun) (stage : Stage) (image next : Image) (opened : OpenResult g) (left : FilesLeft D g) → WasRun run image opened left → IsKnownAt stage (remains_left left) → IsFoundNext left next
       → RunLeads run stage image (stage_after stage (remains_left left)) next
-  runs_lead (ran_command order text written after exit) stage image next left (inl none) = ended (ran_command order text written after exit) stage image next left (inl ((none.0, none.2), none.1))
-  runs_lead (ran_command order text written after exit) stage image next left (inr over) = ended (ran_command order text written after exit) stage image next left (inr over)
-  runs_lead (ran_service port count written after exit) stage image next left (inl none) = ended (ran_service port count written after exit) stage image next left (inl ((none.0, none.2), none.1))
-  runs_lead (ran_service port count written after exit) stage image next left (inr over) = ended (ran_service port count written after exit) stage image next left (inr over)
+  runs_lead (ran_command order text written after exit) stage image next (Ok was) left it known found = ended (ran_command order text written after exit) stage image next (Ok was) left it known found
+  runs_lead (ran_command order text written after exit) stage image next (Err e) left it known found = ended (ran_command order text written after exit) stage image next (Err e) left ((it.fault, it.silent), it.given, it.kept) known found
+  runs_lead (ran_service port count written after exit) stage image next (Ok was) left it known found = ended (ran_service port count written after exit) stage image next (Ok was) left it known found
+  runs_lead (ran_service port count written after exit) stage image next (Err e) left it known found = ended (ran_service port count written after exit) stage image next (Err e) left ((it.fault, it.silent), it.given, it.kept) known found
 
-  pub killed_lead : (run : ProgramRun) (stage : Stage) (image next : Image) (last : Held (FileStore D g)) → WasKilled run image last → IsLeftKilled last next → RunLeads run stage image stored next
-  killed_lead (ran_command order text written after exit) stage image next last over = killed (ran_command order text written after exit) stage image next last over
-  killed_lead (ran_service port count written after exit) stage image next last over = killed (ran_service port count written after exit) stage image next last over
+  pub killed_lead : (run : ProgramRun) (stage : Stage) (image next : Image) (was last : Held (FileStore D g)) → WasKilled run image was last → IsLeftKilled last next → RunLeads run stage image stored next
+  killed_lead (ran_command order text written after exit) stage image next was last over = killed (ran_command order text written after exit) stage image next was last over
+  killed_lead (ran_service port count written after exit) stage image next was last over = killed (ran_service port count written after exit) stage image next was last over
 
 -- ---- any number of runs
 

@@ -141,6 +141,6 @@ LeavesFilesAt {g = g} old s Is (files.Closed it) =
     AreClean g it.log it.db
     → (u : State) × Is u × ContainWholeOffice (image_of g it) u
     × ((image : Image) → outcomes g it.log it.db image → ContainWholeOffice image u)
-LeavesFilesAt old s Is (files.Unclosed store) =
+LeavesFilesAt old s Is (files.Unclosed store why) =
     IsClean (view store) → IsTrue (view store).is_open ⊎ IsTrue (view store).is_numbered
     → (image : Image) → (store_state store).may_leave image → ∥ ((u : State) × Is u × ContainWholeOffice image u) ∥₁
