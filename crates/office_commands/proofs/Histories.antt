@@ -20,17 +20,23 @@ use Rattle.office_rules.specs.Rows.{rows_of}
 use Rattle.office_rules.specs.Sound.{IsSound}
 use Rattle.office_rules.specs.State.{State, empty_state}
 use Rattle.office_store.specs.RepresentsRows.{RepresentsRowsIn}
+use Rattle.office_store.specs.declared.fault.Fault.TheVariants as fault
 use Rattle.office_life.specs.Standing.{IsKnownAt, RestsAt, Stage, StandsAt, half_made, remains_of, stage_after, stored, unmade}
 use Rattle.office_life.specs.declared.reports.Remains.TheVariants as remains
 use Rattle.office_life.specs.Tables.{ContainTables}
 use Rattle.office_life.proofs.LeftTables.{database_of, leaves_tables}
 use Rattle.office_life.proofs.Nothing.{finds_nothing}
-use Rattle.office_commands.specs.FileHistory.{FileHistory, IsFoundNext, IsFoundOf, IsLeftAt, IsLeftKilled, ProgramRun, RunLeads, SaysUnopened, StateHistory, WasKilled, WasRun, began, led, ran_command, ran_service, remains_left, stayed, went_on}
+use Rattle.office_commands.specs.FileHistory.{FileHistory, IsFoundNext, IsFoundOf, IsLeftAt, IsLeftKilled, ProgramRun, RunLeads, StateHistory, WasKilled, WasRun, began, led, ran_command, ran_service, remains_left, stayed, went_on}
 use Rattle.office_commands.specs.Files.{EndsOver, IsClosedCopy, IsLeftOf, IsOpenedFrom, IsUnclosed}
+use Rattle.office_command_line.specs.Orders as command
+use Rattle.office_command_line.specs.Orders.{Command}
+use Rattle.office_commands.specs.NextCommand.{IsFaultAlone, IsLeftBy}
 use Rattle.office_commands.specs.OpenResult.{OpenResult}
 use Rattle.office_commands.specs.Running.{RunEnds}
 use Rattle.office_commands.specs.Serving.{ServiceEnds}
 use Rattle.office_commands.specs.Tables.{KeepsTables, SparesTables}
+use Rattle.office_commands.specs.declared.exit.Exit.{Exit}
+use Rattle.office_commands.specs.declared.exit.Exit.TheVariants as how
 use Rattle.office_commands.specs.declared.office_files.FilesLeft.{FilesLeft}
 use Rattle.office_commands.specs.declared.office_files.FilesLeft.TheVariants as files
 use Rattle.office_commands.proofs.FromNoFile.{IsOfficeOrBefore, command_from, service_from, tables_at}
@@ -131,27 +137,48 @@ are_databases was last s Is rests leaves db may = elim (leaves db may).2 [
 
 -- ---- one run
 
+-- the run opened nothing: fault 31, with nothing written
+abbrev WasRefused : ProgramRun → Type 0
+WasRefused (ran_command order text written after exit) = (exit ≡ how.Fault fault.Store) × (after ≡ written)
+WasRefused (ran_service port count written after exit) = (exit ≡ how.Fault fault.Store) × (after ≡ written)
+
+fault_alone : {written after : Option (List ℕ)} {exit : Exit} (s : State) → (exit ≡ how.Fault fault.Store) × (after ≡ written) → IsFaultAlone written after exit s s
+fault_alone s was = record { fault = fault.Store; reported = was.0; untouched = (refl, was.1) }
+
+order_stays : (order : Command) (text : List ℕ) (written after : Option (List ℕ)) (exit : Exit) (s : State) → (exit ≡ how.Fault fault.Store) × (after ≡ written) → IsLeftBy order text written after exit s s
+order_stays (command.apply file acts) text written after exit s was = inl ((refl, was.1), inl (fault.Store, was.0))
+order_stays (command.import file day csv) text written after exit s was = inl ((refl, was.1), inl (fault.Store, was.0))
+order_stays (command.resume file) text written after exit s was = inl (fault_alone s was)
+order_stays (command.init file) text written after exit s was = inl (fault_alone s was)
+order_stays (command.export file register) text written after exit s was = inl (fault_alone s was)
+order_stays (command.overdue file day n) text written after exit s was = inl (fault_alone s was)
+order_stays (command.certificate file run) text written after exit s was = inl (fault_alone s was)
+order_stays (command.serve file port count) text written after exit s was = (refl, was.1)
+order_stays (command.plan file) text written after exit s was = (refl, was.1)
+order_stays (command.due unit count offset day) text written after exit s was = (refl, was.1)
+order_stays command.nothing text written after exit s was = (refl, was.1)
+
 -- files that were not opened are left at the same state
-stays_at : (run : ProgramRun) (s : State) → SaysUnopened run → IsLeftAt run s s
-stays_at (ran_command order text written after exit) s says = inl (says, refl)
-stays_at (ran_service port count written after exit) s says = inl (says, refl)
+stays_at : (run : ProgramRun) (s : State) → WasRefused run → IsLeftAt run s s
+stays_at (ran_command order text written after exit) s was = order_stays order text written after exit s was
+stays_at (ran_service port count written after exit) s was = ([], tt, refl)
 
 module _ (one : IsOneDatabase) (stay : StaySound) (empty : IsSound empty_state) (ends : IsEnded) {D : Type 0} {g : Ghosts D} where
   -- where a run leaves an office, whatever a crash leaves of its connection
   leaves_so : (run : ProgramRun) (was last : Held (FileStore D g)) (s : State) → RestsAt (file_state was) s → HasCleanDisk (file_state last) → EndedSo run was last
       → (db : Trees) → (file_state last).may_leave db → (u : State) × IsLeftAt run s u × IsOfficeOrBefore (file_state was) db u
   leaves_so (ran_command order text written after exit) was last s rests clean ended db may =
-      let at = command_from one stay empty ends over_files was last s clean rests order text written after exit ended db may in (at.0, inr at.1, at.2)
+      let at = command_from one stay empty ends over_files was last s clean rests order text written after exit ended db may in (at.0, at.1, at.2)
   leaves_so (ran_service port count written after exit) was last s rests clean ended db may =
-      let at = service_from one stay empty ends over_files was last s clean rests port count written after exit ended db may in (at.0, inr at.1, at.2)
+      let at = service_from one stay empty ends over_files was last s clean rests port count written after exit ended db may in (at.0, at.1, at.2)
 
   module _ (run : ProgramRun) (stage : Stage) (image next : Image) where
     -- the run ended so, by what the database returned
     abbrev Came : OpenResult g → FilesLeft D g → Type 0
     Came (Ok was) left = (last : Held (FileStore D g)) × EndsOver left image (EndedSo run) was last × IsLeftOf last left
-    Came (Err e) left = SaysUnopened run × (left ≡ files.Unopened e.1) × IfSome e.1 (SparesTables image)
+    Came (Err e) left = WasRefused run × (left ≡ files.Unopened e.1) × IfSome e.1 (SparesTables image)
 
-    not_opened : SaysUnopened run → (back : Option (Leftover D g)) (left : FilesLeft D g) → left ≡ files.Unopened back → IfSome back (SparesTables image) → IsKnownAt stage (remains_left left) → IsFoundNext left next → RunLeads run stage image (stage_after stage (remains_left left)) next
+    not_opened : WasRefused run → (back : Option (Leftover D g)) (left : FilesLeft D g) → left ≡ files.Unopened back → IfSome back (SparesTables image) → IsKnownAt stage (remains_left left) → IsFoundNext left next → RunLeads run stage image (stage_after stage (remains_left left)) next
     not_opened says back left is spared known found s stands = ∥∥₁_map (refused_at image next stage s stands back left is spared known found) (λ (at : StandsAt (stage_after stage (remains_left left)) next s). (s, stays_at run s says, at))
 
     -- the stage is that of files that hold tables

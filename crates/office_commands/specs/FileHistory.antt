@@ -29,9 +29,7 @@ use Rattle.office_commands.specs.NextCommand.{IsLeftBy, IsServedTo}
 use Rattle.office_commands.specs.OpenResult.{OpenResult}
 use Rattle.office_commands.specs.Running.{RunEnds}
 use Rattle.office_commands.specs.Serving.{ServiceEnds}
-use Rattle.office_store.specs.declared.fault.Fault.TheVariants as fault
 use Rattle.office_commands.specs.declared.exit.Exit.{Exit}
-use Rattle.office_commands.specs.declared.exit.Exit.TheVariants as how
 use Rattle.office_commands.specs.declared.office_files.FilesLeft.{FilesLeft}
 use Rattle.office_commands.specs.declared.office_files.FilesLeft.TheVariants as files
 
@@ -58,18 +56,10 @@ WasKilled (ran_command order text written after exit) image =
 WasKilled (ran_service port count written after exit) image =
     EndsOver (files.Unopened None) image (λ was last. ServiceEnds over_files port count was last written after exit)
 
--- the run says that it opened nothing: fault 31, with nothing written
-abbrev pub SaysUnopened : ProgramRun → Type 0
-SaysUnopened (ran_command order text written after exit) = (exit ≡ how.Fault fault.Store) × (after ≡ written)
-SaysUnopened (ran_service port count written after exit) = (exit ≡ how.Fault fault.Store) × (after ≡ written)
-
--- the state at which it leaves an office that was at one: what its command says; or the same, if it says that it opened
--- nothing
+-- the state at which it leaves an office that was at one
 abbrev pub IsLeftAt : ProgramRun → State → State → Type 0
-IsLeftAt (ran_command order text written after exit) s u =
-    SaysUnopened (ran_command order text written after exit) × (u ≡ s) ⊎ IsLeftBy order text written after exit s u
-IsLeftAt (ran_service port count written after exit) s u =
-    SaysUnopened (ran_service port count written after exit) × (u ≡ s) ⊎ IsServedTo s u
+IsLeftAt (ran_command order text written after exit) = IsLeftBy order text written after exit
+IsLeftAt (ran_service port count written after exit) = IsServedTo
 
 -- ---- what the next run finds
 
