@@ -29,7 +29,7 @@ use Rattle.office_desk.specs.Opening.{Finds, LeavesTables, OpenFailedLeaves}
 use Rattle.office_desk.specs.Outcomes.{ActsCameTo, FromEach, acts_outcome}
 use Rattle.office_desk.specs.Resuming.{AreRunSteps, resumed_answer}
 use Rattle.office_desk.specs.Resumptions.{IsRunAnswered, RunCameTo, RunOutcome, none_open, run_closed, run_outcome, run_stopped}
-use Rattle.office_life.specs.Life.{AreStopped, DidActs, DidSteps, IsInterrupted, LeadsBy}
+use Rattle.office_life.specs.Life.{AreStopped, DidActs, DidSteps, IsInterrupted, IsResumedBy, LeadsBy}
 use Rattle.office_life.specs.Standing.{LeavesAt, RestsAt}
 use Rattle.office_life.specs.Tables.{AreTablesAt}
 use Rattle.office_life.specs.declared.reports.StintEnd.TheVariants as end
@@ -161,7 +161,7 @@ module _ (one : IsOneDatabase) (stay : StaySound) {S : Type 0} (g : Ghosts S) (s
   resumed_to answer old new here answered it db may =
       let o = run_outcome (Ok answer) (open_run old.office) in
       let from = answered ∙ ap (λ x. resumed_answer (open_run x)) (sym here) in
-      let how = record { steps = (taken o new it db may).1; answered = from; closed = none_after answer (open_run old.office) new it db may } in
+      let how : IsResumedBy answer s (taken o new it db may).0 = record { steps = (taken o new it db may).1; answered = from; closed = none_after answer (open_run old.office) new it db may } in
       (after s (taken o new it db may).0, ((taken o new it db may).0, how, refl), there o new it db may)
 
   -- a fault stopped it after so many

@@ -60,7 +60,7 @@ module _ {S : Type 0} (g : store.Ghosts S) (conn back : Held S) (s : State) wher
   existing ed sound rows fault.Memory failed other = tt
   existing ed sound rows fault.Store failed other = tt
   existing ed sound rows fault.Reopen failed other = other refl
-  existing ed sound rows fault.Damaged failed other texts = failed.damaged refl s (record { sound = sound; texts = texts; rows = rows })
+  existing ed sound rows fault.Damaged failed other = λ texts. failed.damaged refl s (record { sound = sound; texts = texts; rows = rows })
   existing ed sound rows fault.Version failed other = this_schema_version ed (state g conn).now.trees (rows_of s).day rows.office (failed.version refl)
 
   -- one that is to be made
@@ -68,7 +68,7 @@ module _ {S : Type 0} (g : store.Ghosts S) (conn back : Held S) (s : State) wher
   unmade_by fault.Memory why none = tt
   unmade_by fault.Store why none = tt
   unmade_by fault.Reopen why none = elim why.faults [ inl is ↦ absurd cc | inr is ↦ absurd cc ]
-  unmade_by fault.Damaged why none texts = let both : true ≡ false = sym (why.damaged refl).0 ∙ none in cc
+  unmade_by fault.Damaged why none = λ texts. let both : true ≡ false = sym (why.damaged refl).0 ∙ none in cc
   unmade_by fault.Version why none = elim why.faults [ inl is ↦ absurd cc | inr is ↦ absurd cc ]
 
   pub not_refused : RestsAt (state g conn) s → HasCleanDisk (state g back) → (f : Fault) → OpenFailed g conn f back → StopsOffice s f

@@ -63,10 +63,10 @@ module _ {D : Type 0} {g : Ghosts D} where
   abbrev pub IsCrashed : Leftover D g → Files D → Type 0
   IsCrashed rest later = (image : Image) → outcomes g later.log later.db image → outcomes_left rest image
 
-  -- one after another, each on what a crash made of the files that the one before left
-  abbrev pub AreTold : Files D → List Task → List Report → Files D → Type 0
-  AreTold files [] [] last = last ≡ files
-  AreTold files (asked ∷ tasks) (report ∷ reports) last =
-      (rest : Leftover D g) × (later : Files D) × IsTold asked report files rest × IsCrashed rest later
-      × AreTold later tasks reports last
-  AreTold files tasks reports last = ⊥
+-- one after another, each on what a crash made of the files that the one before left
+abbrev pub AreTold : {D : Type 0} (g : Ghosts D) → Files D → List Task → List Report → Files D → Type 0
+AreTold g files [] [] last = last ≡ files
+AreTold {D} g files (asked ∷ tasks) (report ∷ reports) last =
+    (rest : Leftover D g) × (later : Files D) × IsTold asked report files rest × IsCrashed rest later
+    × AreTold g later tasks reports last
+AreTold g files tasks reports last = ⊥

@@ -6,11 +6,12 @@ ghost use Rattle.sqlite_wal.specs.Files.{outcomes};
 ghost use Rattle.sqlite_wal.specs.Recovery.{Image};
 ghost use Rattle.sqlite.specs.Files.{file_state};
 ghost use Rattle.sqlite.specs.State.{HasCleanDisk};
-ghost use Rattle.office_life.specs.Standing.{NeverLies};
+ghost use Rattle.office_life.specs.Standing.{NeverLies, outcomes_left};
 ghost use Rattle.office_life.specs.Tables.{ContainTables};
-ghost use Rattle.office_life.specs.Told.{IsShut};
+ghost use Rattle.office_life.specs.Told.{AreClosed, IsShut};
 
-use sqlite::{Connection, FileStore, Files};
+use crate::reports::Remains;
+use sqlite::{Connection, FileStore, Files, Leftover};
 use sqlite_disk::Disk;
 use sqlite_trees::store::Store;
 
@@ -31,9 +32,9 @@ fn copy<D: Disk>(store: &mut FileStore<D>) -> bool
     }
 }
 
-/// Closes a connection, whatever became of it, and gives its files back; or the store over them, if
-/// the closing failed and shut it.
-pub fn close<D: Disk + Drop>(conn: Connection<FileStore<D>>) -> Result<Files<D>, FileStore<D>>
+/// Closes a connection, and gives its files back; or the store over them, if the closing failed and
+/// shut it.
+fn files_of<D: Disk + Drop>(conn: Connection<FileStore<D>>) -> Result<Files<D>, FileStore<D>>
     ensures clean { NeverLies D.Disk → HasCleanDisk (file_state conn) }
     ensures shut { NeverLies D.Disk → IfErr result (λ store. IsShut conn.store store) }
     ensures tables { NeverLies D.Disk → IfOk result (λ files. (image : Image)
@@ -45,5 +46,21 @@ pub fn close<D: Disk + Drop>(conn: Connection<FileStore<D>>) -> Result<Files<D>,
         Ok(store.close())
     } else {
         Err(store)
+    }
+}
+
+/// Closes a connection, whatever became of it. Tells what is known of its files, with what is left
+/// of them: the two files, or the store that the closing shut.
+pub fn close<D: Disk + Drop>(conn: Connection<FileStore<D>>) -> (Remains, Leftover<D>)
+    ensures clean { NeverLies D.Disk → HasCleanDisk (file_state conn) }
+    ensures closed { NeverLies D.Disk
+        → AreClosed (λ store. store ≡ conn.store) result.0 result.1 }
+    ensures tables { NeverLies D.Disk → result.0 ≡ Remains.Held → (image : Image)
+        → outcomes_left result.1 image
+        → ∥ ((db : Trees) × (file_state conn).may_leave db × ContainTables image db) ∥₁ }
+{
+    match files_of(conn) {
+        Ok(files) => (Remains::Held, Leftover::Files(files)),
+        Err(store) => (Remains::Shut, Leftover::Store(store)),
     }
 }

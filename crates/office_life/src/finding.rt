@@ -1,10 +1,10 @@
 //! The office in two files is found.
-ghost use Rattle.std.specs.Prelude.{IfErr, IfOk, IsTrue};
-ghost use Rattle.sqlite.specs.Files.{image_of, over_files};
+ghost use Rattle.std.specs.Prelude.{◌≡◌, IfErr, IfOk, IsTrue, false};
+ghost use Rattle.sqlite.specs.Files.{file_state, image_of, over_files};
 ghost use Rattle.office_rules.specs.State.{State};
 ghost use Rattle.office_desk.specs.Leaving.{IsAt};
 ghost use Rattle.office_life.specs.Opening.{AreNotRefused, IsNotRefused, StopsFinding};
-ghost use Rattle.office_life.specs.Standing.{NeverLies, Stage, StandsAt};
+ghost use Rattle.office_life.specs.Standing.{NeverLies, RestsAt, Stage, StandsAt};
 
 use crate::opening::open;
 use office_desk::Desk;
@@ -32,6 +32,24 @@ impl<D: Disk + Drop> Drop for FindStop<D> {
     }
 }
 
+/// Opens the office behind a connection.
+fn found_at<D: Disk + Drop>(
+    alloc: Global,
+    conn: Connection<FileStore<D>>,
+) -> Result<Desk<FileStore<D>>, FindStop<D>>
+    requires { conn.in_transaction ≡ false }
+    ensures found { NeverLies D.Disk → IfOk result (λ desk. (s : State)
+        → RestsAt (file_state conn) s → IsAt over_files s desk) }
+    ensures why { NeverLies D.Disk → IfErr result (λ stop. (files : Files D) (s : State)
+        → RestsAt (file_state conn) s → StopsFinding files s stop) }
+{
+    law_of_one_database();
+    match Desk::open(alloc, conn) {
+        Ok(desk) => Ok(desk),
+        Err((fault, conn)) => Err(FindStop::Office(fault, conn)),
+    }
+}
+
 /// Opens the office in two files. It is at the state for which the files stood. If its certificates
 /// are texts, the opening fails only for lack of memory, at a limit of the format, or since a call
 /// of the disk or of the database failed: the files are never refused as no database, as damaged or
@@ -47,14 +65,9 @@ pub fn find<D: Disk + Drop>(
     ensures why { NeverLies D.Disk → IfErr result (λ stop. (stage : Stage) (s : State)
         → StandsAt stage (image_of D.Disk files) s → StopsFinding files s stop) }
 {
-    law_of_one_database();
-    let conn = match open(alloc, files) {
-        Ok(conn) => conn,
-        Err((error, rest)) => return Err(FindStop::Files(error, rest)),
-    };
-    match Desk::open(alloc, conn) {
-        Ok(desk) => Ok(desk),
-        Err((fault, conn)) => Err(FindStop::Office(fault, conn)),
+    match open(alloc, files) {
+        Ok(conn) => found_at(alloc, conn),
+        Err((error, rest)) => Err(FindStop::Files(error, rest)),
     }
 }
 

@@ -28,7 +28,7 @@ fn law_of_the_last_commit<S: Alter>(conn: &Connection<S>)
 }
 
 /// Names what is known of files that were not opened.
-pub(crate) fn remains_by<D: Disk>(rest: &Leftover<D>) -> Remains
+pub fn remains_by<D: Disk>(rest: &Leftover<D>) -> Remains
     ensures { result ≡ remains_of rest.now }
 {
     match rest {

@@ -7,7 +7,7 @@ ghost use Rattle.office_life.specs.Told.{IsTold};
 
 use crate::closing::close;
 use crate::opening::{open, remains_by};
-use crate::reports::{Remains, Report, StintEnd, Task};
+use crate::reports::{Report, StintEnd, Task};
 use crate::work::work_at;
 use sqlite::{Files, Leftover};
 use sqlite_disk::Disk;
@@ -25,18 +25,16 @@ pub fn stint<D: Disk + Drop>(alloc: Global, files: Files<D>, task: &Task) -> (Re
         (outcomes D.Disk files.log files.db) (outcomes_left result.1) }
     ensures told { NeverLies D.Disk → IsTold task.now result.0 files result.1 }
 {
-    let conn = match open(alloc, files) {
-        Ok(conn) => conn,
+    match open(alloc, files) {
+        Ok(conn) => {
+            let (end, conn) = work_at(alloc, conn, task);
+            let (remains, rest) = close(conn);
+            (Report { end, remains }, rest)
+        }
         Err((error, rest)) => {
             let end = StintEnd::FilesShut(error);
             let remains = remains_by(&rest);
-            return (Report { end, remains }, rest);
+            (Report { end, remains }, rest)
         }
-    };
-    let (end, conn) = work_at(alloc, conn, task);
-    let (remains, rest) = match close(conn) {
-        Ok(files) => (Remains::Held, Leftover::Files(files)),
-        Err(store) => (Remains::Shut, Leftover::Store(store)),
-    };
-    (Report { end, remains }, rest)
+    }
 }
