@@ -373,7 +373,7 @@ module _ (stay : StaySound) (ends : IsEnded) (At : Trees → State → Type 0) (
       let at = of_opened (RunLeft (run_stopped f) new) it in
       let n = at.leaves.0 in
       let not_done : exit ≡ how.Done → ⊥ = λ done. let other : how.Fault f ≡ how.Done = sym reported.0 ∙ done in cc in
-      λ db may. elim (has_stopped (after_steps s n) (after_steps s (suc n)) f (sound_steps stay n s sound) (sound_steps stay (suc n) s sound) at.leaves.1 db may) [
+      λ db may. elim (has_stopped (after_steps s n) (after_steps s (suc n)) f (sound_steps stay n s sound) (sound_steps stay (suc n) s sound) at.leaves.2 db may) [
         | inl here ↦ (after_steps s n, record { count = n; state = refl; closed = λ done. absurd (not_done done) }, here)
         | inr next ↦ (after_steps s (suc n), record { count = suc n; state = refl; closed = λ done. absurd (not_done done) }, next)
       ]
