@@ -1,10 +1,9 @@
 -- The acts of runs of the program account for what their file holds, and the evidence in it is true of them.
-use Rattle.std.proofs.Common.{◌≡◌, ◌∙◌, ◌<◌, ◌++◌, ◌∷◌, [], ℕ, zero, suc, inl, inr, List, length, Option, None, Some, refl, sym, ap, subst}
+use Rattle.std.proofs.Common.{◌≡◌, ◌∙◌, ◌<◌, ◌++◌, ◌∷◌, [], ℕ, zero, suc, inl, inr, List, length, Option, None, Some, refl, ap, subst}
 use Rattle.std.proofs.Math.Logic.{∥∥₁_map}
 use Rattle.std.specs.FinMap.{get}
 use Rattle.std.specs.Io.KnownBytes.{Appends}
 use Rattle.sqlite_wal.specs.Recovery.{Image}
-use Rattle.sqlite.specs.Files.{IsNothing}
 use Rattle.office_base.specs.declared.refusal.Refusal.TheVariants as refused
 use Rattle.office_records.specs.Lists.{numbered}
 use Rattle.office_records.proofs.Places.{numbered_push}
@@ -20,7 +19,7 @@ use Rattle.office_life.specs.Standing.{Stage, StandsAt, unmade}
 use Rattle.office_command_line.specs.Orders as command
 use Rattle.office_evidence.specs.History.{AreWellFormed}
 use Rattle.office_evidence.specs.Truth.{IsTrueCertificate, IsTrueEntry}
-use Rattle.office_commands.specs.FileHistory.{ActsOfRuns, FileHistory, FilesFollow, IsLeftAt, ProgramRun, ReportsContents, StateHistory, no_run, one_run, ran_command, ran_service}
+use Rattle.office_commands.specs.FileHistory.{ActsOfRuns, FileHistory, FilesFollow, IsLeftAt, ProgramRun, ReportsContents, StateHistory, no_run, one_run, ran_command}
 use Rattle.office_commands.specs.declared.exit.Exit.TheVariants as how
 use Rattle.office_guarantees.specs.TrueFiles.{AccountFor, FilesAreTrue, FilesAreTrueSince, HasPrinted, IsTrueEvidence, IsTrueEvidenceSince}
 
