@@ -4,9 +4,9 @@ ghost use Rattle.office_command_line.specs.Disks.{finishes_sectors};
 
 use crate::{read_file, report_exit};
 use office_command_line::{Disk, Order, UnknownDisk, disk_of};
-use office_commands::{Exit, Routes, open_and_apply, open_and_run, open_and_serve};
+use office_commands::{Exit, Routes, apply_opened, run_opened, serve_opened};
 use office_store::Fault;
-use sqlite::{Start, Unknown, Wary};
+use sqlite::{Connection, Start, Unknown, Wary};
 use std::env::VarError;
 use std::fs::OpenOptions;
 use std::io::{LineWriter, Read};
@@ -60,7 +60,8 @@ fn apply_over<S: Start>(rt: &HostRuntime, place: Place<'_>, start: S, text: &[u8
     match LineWriter::new(rt.alloc(), io::writer(rt)) {
         Ok(mut out) => {
             make_private(rt, place.file);
-            let (exit, _left) = open_and_apply(rt, place.file, start, text, &mut out);
+            let opened = Connection::open_from(rt, place.file, false, start);
+            let (exit, _left) = apply_opened(rt.alloc(), opened, text, &mut out);
             exit
         }
         Err(_) => Exit::Fault(Fault::Memory),
@@ -95,9 +96,8 @@ fn run_over<S: Start, R: Read>(
         Ok(mut out) => {
             let mut err = rt.stderr();
             make_private(rt, place.file);
-            let (status, _left) = open_and_run(
-                rt, place.file, start, order, input, &mut out, &mut err,
-            );
+            let opened = Connection::open_from(rt, place.file, false, start);
+            let (status, _left) = run_opened(rt.alloc(), opened, order, input, &mut out, &mut err);
             status
         }
         Err(_) => report_exit(rt, Exit::Fault(Fault::Memory)),
@@ -133,8 +133,9 @@ fn serve_over<S: Start>(
 {
     let (mut out, mut err) = (io::writer(rt), rt.stderr());
     make_private(rt, place.file);
-    let (exit, _left) = open_and_serve(
-        rt, routes, listener, port, count, place.file, start, &mut out, &mut err,
+    let opened = Connection::open_from(rt, place.file, false, start);
+    let (exit, _left) = serve_opened(
+        rt, routes, listener, port, count, opened, &mut out, &mut err,
     );
     exit
 }

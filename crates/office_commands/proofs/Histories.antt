@@ -1,5 +1,5 @@
 -- What an office's files stand for after any number of runs of the program, from no file on.
-use Rattle.std.proofs.Common.{◌≡◌, ◌⊎◌, ◌++◌, ◌∷◌, [], inl, inr, ℕ, IsTrue, List, Option, None, Some, refl, sym, subst, arith}
+use Rattle.std.proofs.Common.{◌≡◌, ◌⊎◌, ◌++◌, ◌∷◌, [], inl, inr, ℕ, IfSome, IsTrue, List, Option, None, Some, Ok, Err, refl, sym, subst, arith}
 use Rattle.std.proofs.Math.Logic.{∥∥₁_elim, ∥∥₁_map}
 use Rattle.sqlite_catalog.specs.Listing.{IsSound as IsSoundDatabase}
 use Rattle.sqlite_disk.specs.declared.Disk.{Ghosts}
@@ -8,6 +8,7 @@ use Rattle.sqlite_store.specs.FileStore.{recovers, view}
 use Rattle.sqlite_store.specs.declared.store.FileStore.{FileStore}
 use Rattle.sqlite_trees.specs.Tree.{Trees}
 use Rattle.sqlite_trees.specs.View.{IsClean}
+use Rattle.sqlite_trees.specs.declared.error.StoreError.{StoreError}
 use Rattle.sqlite_wal.specs.Reads.{AreClean}
 use Rattle.sqlite_wal.specs.Recovery.{Image}
 use Rattle.sqlite.specs.Files.{IsEmpty, file_state, over_files}
@@ -19,16 +20,23 @@ use Rattle.office_rules.specs.Rows.{rows_of}
 use Rattle.office_rules.specs.Sound.{IsSound}
 use Rattle.office_rules.specs.State.{State, empty_state}
 use Rattle.office_store.specs.RepresentsRows.{RepresentsRowsIn}
+use Rattle.office_store.specs.declared.fault.Fault.TheVariants as fault
 use Rattle.office_life.specs.Standing.{IsKnownAt, RestsAt, Stage, StandsAt, half_made, remains_of, stage_after, stored, unmade}
 use Rattle.office_life.specs.declared.reports.Remains.TheVariants as remains
 use Rattle.office_life.specs.Tables.{ContainTables}
 use Rattle.office_life.proofs.LeftTables.{database_of, leaves_tables}
 use Rattle.office_life.proofs.Nothing.{finds_nothing}
-use Rattle.office_commands.specs.FileHistory.{FileHistory, IsFoundNext, IsFoundOf, IsLeftAt, IsLeftKilled, ProgramRun, RunLeads, SaysUnopened, StateHistory, WasKilled, WasRun, began, led, ran_command, ran_service, remains_left, stayed, went_on}
-use Rattle.office_commands.specs.Files.{EndsOver, IsClosedCopy, IsLeftOf, IsOpenedFrom, IsUnclosed, IsUnopenedLeft}
+use Rattle.office_commands.specs.FileHistory.{FileHistory, IsFoundNext, IsFoundOf, IsLeftAt, IsLeftKilled, ProgramRun, RunLeads, StateHistory, WasKilled, WasRun, began, led, ran_command, ran_service, remains_left, stayed, went_on}
+use Rattle.office_commands.specs.Files.{EndsOver, IsClosedCopy, IsLeftOf, IsOpenedFrom, IsUnclosed}
+use Rattle.office_command_line.specs.Orders as command
+use Rattle.office_command_line.specs.Orders.{Command}
+use Rattle.office_commands.specs.NextCommand.{IsFaultAlone, IsLeftBy}
+use Rattle.office_commands.specs.OpenResult.{OpenResult}
 use Rattle.office_commands.specs.Running.{RunEnds}
 use Rattle.office_commands.specs.Serving.{ServiceEnds}
 use Rattle.office_commands.specs.Tables.{KeepsTables, SparesTables}
+use Rattle.office_commands.specs.declared.exit.Exit.{Exit}
+use Rattle.office_commands.specs.declared.exit.Exit.TheVariants as how
 use Rattle.office_commands.specs.declared.office_files.FilesLeft.{FilesLeft}
 use Rattle.office_commands.specs.declared.office_files.FilesLeft.TheVariants as files
 use Rattle.office_commands.proofs.FromNoFile.{IsOfficeOrBefore, command_from, service_from, tables_at}
@@ -57,11 +65,16 @@ module _ {D : Type 0} {g : Ghosts D} (image next : Image) (stage : Stage) (s : S
   spared_at (leftover.Unopened it) spared known (clean, may) = kept_at image next (spared clean next may) stage s known stands
   spared_at (leftover.Store it) spared known found = absurd found
 
-  unopened_at : (left : FilesLeft D g) → IsUnopenedLeft image left → IsKnownAt stage (remains_left left) → IsFoundNext left next → ∥ StandsAt (stage_after stage (remains_left left)) next s ∥₁
-  unopened_at (files.Unopened None) spared known found = absurd found
-  unopened_at (files.Unopened (Some it)) spared known found = spared_at it spared known found
-  unopened_at (files.Closed it) none known found = absurd none
-  unopened_at (files.Unclosed store) none known found = absurd none
+  -- where the database gave that back
+  abbrev GoesOnUnopened : FilesLeft D g → Type 0
+  GoesOnUnopened left = IsKnownAt stage (remains_left left) → IsFoundNext left next → ∥ StandsAt (stage_after stage (remains_left left)) next s ∥₁
+
+  given_at : (back : Option (Leftover D g)) → IfSome back (SparesTables image) → GoesOnUnopened (files.Unopened back)
+  given_at None spared = λ known found. absurd found
+  given_at (Some rest) spared = λ known found. spared_at rest spared known found
+
+  refused_at : (back : Option (Leftover D g)) (left : FilesLeft D g) → left ≡ files.Unopened back → IfSome back (SparesTables image) → GoesOnUnopened left
+  refused_at back left is spared = subst GoesOnUnopened (sym is) (given_at back spared)
 
 -- ---- files that were opened
 
@@ -91,8 +104,8 @@ module _ {D : Type 0} {g : Ghosts D} (was last : Held (FileStore D g)) (Is : Sta
   closed_at : (it : Files D) → IsClosedCopy last it → (file_state last).may_leave (file_state last).committed.trees → ∥ ContainTables next (file_state last).committed.trees ∥₁ → GoesOn
   closed_at it copy stays contained = ∥∥₁_map contained (λ (h : ContainTables next (file_state last).committed.trees). goes_on copy.copied.was_clean (file_state last).committed.trees stays h)
 
-  unclosed_at : (store : FileStore D g) → IsUnclosed last store → IsFoundNext {g = g} (files.Unclosed store) next → GoesOn
-  unclosed_at store it (clean, known, may) =
+  unclosed_at : (store : FileStore D g) (why : StoreError) → IsUnclosed last store why → IsFoundNext {g = g} (files.Unclosed store why) next → GoesOn
+  unclosed_at store why it (clean, known, may) =
       let closed = it.closed in
       let numbered : IsTrue (view store).is_numbered = elim known [ inl on ↦ it.numbered clean on | inr is ↦ is ] in
       let doubted = closed.quiet.clean in
@@ -102,7 +115,7 @@ module _ {D : Type 0} {g : Ghosts D} (was last : Held (FileStore D g)) (Is : Sta
   pub left_at : (stays : IsTrue (file_state last).is_open → (file_state last).may_leave (file_state last).committed.trees) (left : FilesLeft D g) → IsLeftOf last left → IsFoundNext left next → GoesOn
   left_at stays (files.Unopened rest) it found = absurd it
   left_at stays (files.Closed it) copied (clean, may) = let copy = copied clean in closed_at it copy (stays copy.copied.was_open) (copy.left next may)
-  left_at stays (files.Unclosed store) it found = unclosed_at store it found
+  left_at stays (files.Unclosed store why) it found = unclosed_at store why it found
 
   -- where the process was killed
   pub killed_at : IsLeftKilled last next → AreDatabases (recovers last.store) → GoesOn
@@ -124,56 +137,81 @@ are_databases was last s Is rests leaves db may = elim (leaves db may).2 [
 
 -- ---- one run
 
+-- the run opened nothing: fault 31, with nothing written
+abbrev WasRefused : ProgramRun → Type 0
+WasRefused (ran_command order text written after exit) = (exit ≡ how.Fault fault.Store) × (after ≡ written)
+WasRefused (ran_service port count written after exit) = (exit ≡ how.Fault fault.Store) × (after ≡ written)
+
+fault_alone : {written after : Option (List ℕ)} {exit : Exit} (s : State) → (exit ≡ how.Fault fault.Store) × (after ≡ written) → IsFaultAlone written after exit s s
+fault_alone s was = record { fault = fault.Store; reported = was.0; untouched = (refl, was.1) }
+
+order_stays : (order : Command) (text : List ℕ) (written after : Option (List ℕ)) (exit : Exit) (s : State) → (exit ≡ how.Fault fault.Store) × (after ≡ written) → IsLeftBy order text written after exit s s
+order_stays (command.apply file acts) text written after exit s was = inl ((refl, was.1), inl (fault.Store, was.0))
+order_stays (command.import file day csv) text written after exit s was = inl ((refl, was.1), inl (fault.Store, was.0))
+order_stays (command.resume file) text written after exit s was = inl (fault_alone s was)
+order_stays (command.init file) text written after exit s was = inl (fault_alone s was)
+order_stays (command.export file register) text written after exit s was = inl (fault_alone s was)
+order_stays (command.overdue file day n) text written after exit s was = inl (fault_alone s was)
+order_stays (command.certificate file run) text written after exit s was = inl (fault_alone s was)
+order_stays (command.serve file port count) text written after exit s was = (refl, was.1)
+order_stays (command.plan file) text written after exit s was = (refl, was.1)
+order_stays (command.due unit count offset day) text written after exit s was = (refl, was.1)
+order_stays command.nothing text written after exit s was = (refl, was.1)
+
 -- files that were not opened are left at the same state
-stays_at : (run : ProgramRun) (s : State) → SaysUnopened run → IsLeftAt run s s
-stays_at (ran_command order text written after exit) s says = inl (says, refl)
-stays_at (ran_service port count written after exit) s says = inl (says, refl)
+stays_at : (run : ProgramRun) (s : State) → WasRefused run → IsLeftAt run s s
+stays_at (ran_command order text written after exit) s was = order_stays order text written after exit s was
+stays_at (ran_service port count written after exit) s was = ([], tt, refl)
 
 module _ (one : IsOneDatabase) (stay : StaySound) (empty : IsSound empty_state) (ends : IsEnded) {D : Type 0} {g : Ghosts D} where
   -- where a run leaves an office, whatever a crash leaves of its connection
   leaves_so : (run : ProgramRun) (was last : Held (FileStore D g)) (s : State) → RestsAt (file_state was) s → HasCleanDisk (file_state last) → EndedSo run was last
       → (db : Trees) → (file_state last).may_leave db → (u : State) × IsLeftAt run s u × IsOfficeOrBefore (file_state was) db u
   leaves_so (ran_command order text written after exit) was last s rests clean ended db may =
-      let at = command_from one stay empty ends over_files was last s clean rests order text written after exit ended db may in (at.0, inr at.1, at.2)
+      let at = command_from one stay empty ends over_files was last s clean rests order text written after exit ended db may in (at.0, at.1, at.2)
   leaves_so (ran_service port count written after exit) was last s rests clean ended db may =
-      let at = service_from one stay empty ends over_files was last s clean rests port count written after exit ended db may in (at.0, inr at.1, at.2)
+      let at = service_from one stay empty ends over_files was last s clean rests port count written after exit ended db may in (at.0, at.1, at.2)
 
   module _ (run : ProgramRun) (stage : Stage) (image next : Image) where
-    not_opened : SaysUnopened run → (left : FilesLeft D g) → IsUnopenedLeft image left → IsKnownAt stage (remains_left left) → IsFoundNext left next → RunLeads run stage image (stage_after stage (remains_left left)) next
-    not_opened says left spared known found s stands = ∥∥₁_map (unopened_at image next stage s stands left spared known found) (λ (at : StandsAt (stage_after stage (remains_left left)) next s). (s, stays_at run s says, at))
+    -- the run ended so, by what the database returned
+    abbrev Came : OpenResult g → FilesLeft D g → Type 0
+    Came (Ok was) left = (last : Held (FileStore D g)) × EndsOver left image (EndedSo run) was last × IsLeftOf last left
+    Came (Err e) left = WasRefused run × (left ≡ files.Unopened e.1) × IfSome e.1 (SparesTables image)
+
+    not_opened : WasRefused run → (back : Option (Leftover D g)) (left : FilesLeft D g) → left ≡ files.Unopened back → IfSome back (SparesTables image) → IsKnownAt stage (remains_left left) → IsFoundNext left next → RunLeads run stage image (stage_after stage (remains_left left)) next
+    not_opened says back left is spared known found s stands = ∥∥₁_map (refused_at image next stage s stands back left is spared known found) (λ (at : StandsAt (stage_after stage (remains_left left)) next s). (s, stays_at run s says, at))
 
     -- the stage is that of files that hold tables
-    opened : (last : Held (FileStore D g)) (left : FilesLeft D g) → EndsOver left image (EndedSo run) last → IsLeftOf last left → IsFoundNext left next → RunLeads run stage image stored next
-    opened last left over is_left found s stands =
-        let rests = λ (clean : HasCleanDisk (file_state last)). rests_from image over.was last over.opened clean stage s stands in
-        left_at over.was last (IsLeftAt run s) (λ clean. leaves_so run over.was last s (rests clean) clean over.ends) next over.stays left is_left found
+    opened_so : (was last : Held (FileStore D g)) (left : FilesLeft D g) → EndsOver left image (EndedSo run) was last → IsLeftOf last left → IsFoundNext left next → RunLeads run stage image stored next
+    opened_so was last left over is_left found s stands =
+        let rests = λ (clean : HasCleanDisk (file_state last)). rests_from image was last over.opened clean stage s stands in
+        left_at was last (IsLeftAt run s) (λ clean. leaves_so run was last s (rests clean) clean over.ends) next over.stays left is_left found
 
     after_closing : (left : FilesLeft D g) (last : Held (FileStore D g)) → IsLeftOf last left → stage_after stage (remains_left left) ≡ stored
     after_closing (files.Unopened rest) last it = absurd it
     after_closing (files.Closed it) last copied = refl
-    after_closing (files.Unclosed store) last it = refl
+    after_closing (files.Unclosed store why) last it = refl
 
-    ended : (left : FilesLeft D g) → SaysUnopened run × IsUnopenedLeft image left ⊎ ((last : Held (FileStore D g)) × EndsOver left image (EndedSo run) last × IsLeftOf last left) → IsKnownAt stage (remains_left left) → IsFoundNext left next
-        → RunLeads run stage image (stage_after stage (remains_left left)) next
-    ended left (inl (says, spared)) known found = not_opened says left spared known found
-    ended left (inr (last, over, is_left)) known found = subst (λ (is : Stage). RunLeads run stage image is next) (sym (after_closing left last is_left)) (opened last left over is_left found)
+    ended : (opened : OpenResult g) (left : FilesLeft D g) → Came opened left → IsKnownAt stage (remains_left left) → IsFoundNext left next → RunLeads run stage image (stage_after stage (remains_left left)) next
+    ended (Ok was) left (last, over, is_left) known found = subst (λ (is : Stage). RunLeads run stage image is next) (sym (after_closing left last is_left)) (opened_so was last left over is_left found)
+    ended (Err e) left (says, is, spared) known found = not_opened says e.1 left is spared known found
 
-    killed : (last : Held (FileStore D g)) → EndsOver (files.Unopened None) image (EndedSo run) last → IsLeftKilled last next → RunLeads run stage image stored next
-    killed last over it s stands =
-        let rests = rests_from image over.was last over.opened it.clean stage s stands in
-        let leaves = leaves_so run over.was last s rests it.clean over.ends in
-        killed_at over.was last (IsLeftAt run s) (λ clean. leaves) next it (are_databases over.was last s (IsLeftAt run s) rests leaves)
+    killed : (was last : Held (FileStore D g)) → EndsOver (files.Unopened None) image (EndedSo run) was last → IsLeftKilled last next → RunLeads run stage image stored next
+    killed was last over it s stands =
+        let rests = rests_from image was last over.opened it.clean stage s stands in
+        let leaves = leaves_so run was last s rests it.clean over.ends in
+        killed_at was last (IsLeftAt run s) (λ clean. leaves) next it (are_databases was last s (IsLeftAt run s) rests leaves)
 
-  pub runs_lead : (run : ProgramRun) (stage : Stage) (image next : Image) (left : FilesLeft D g) → WasRun run image left → IsKnownAt stage (remains_left left) → IsFoundNext left next
+  pub runs_lead : (run : ProgramRun) (stage : Stage) (image next : Image) (opened : OpenResult g) (left : FilesLeft D g) → WasRun run image opened left → IsKnownAt stage (remains_left left) → IsFoundNext left next
       → RunLeads run stage image (stage_after stage (remains_left left)) next
-  runs_lead (ran_command order text written after exit) stage image next left (inl none) = ended (ran_command order text written after exit) stage image next left (inl ((none.0, none.2), none.1))
-  runs_lead (ran_command order text written after exit) stage image next left (inr over) = ended (ran_command order text written after exit) stage image next left (inr over)
-  runs_lead (ran_service port count written after exit) stage image next left (inl none) = ended (ran_service port count written after exit) stage image next left (inl ((none.0, none.2), none.1))
-  runs_lead (ran_service port count written after exit) stage image next left (inr over) = ended (ran_service port count written after exit) stage image next left (inr over)
+  runs_lead (ran_command order text written after exit) stage image next (Ok was) left it known found = ended (ran_command order text written after exit) stage image next (Ok was) left it known found
+  runs_lead (ran_command order text written after exit) stage image next (Err e) left it known found = ended (ran_command order text written after exit) stage image next (Err e) left ((it.fault, it.silent), it.given, it.kept) known found
+  runs_lead (ran_service port count written after exit) stage image next (Ok was) left it known found = ended (ran_service port count written after exit) stage image next (Ok was) left it known found
+  runs_lead (ran_service port count written after exit) stage image next (Err e) left it known found = ended (ran_service port count written after exit) stage image next (Err e) left ((it.fault, it.silent), it.given, it.kept) known found
 
-  pub killed_lead : (run : ProgramRun) (stage : Stage) (image next : Image) (last : Held (FileStore D g)) → WasKilled run image last → IsLeftKilled last next → RunLeads run stage image stored next
-  killed_lead (ran_command order text written after exit) stage image next last over = killed (ran_command order text written after exit) stage image next last over
-  killed_lead (ran_service port count written after exit) stage image next last over = killed (ran_service port count written after exit) stage image next last over
+  pub killed_lead : (run : ProgramRun) (stage : Stage) (image next : Image) (was last : Held (FileStore D g)) → WasKilled run image was last → IsLeftKilled last next → RunLeads run stage image stored next
+  killed_lead (ran_command order text written after exit) stage image next was last over = killed (ran_command order text written after exit) stage image next was last over
+  killed_lead (ran_service port count written after exit) stage image next was last over = killed (ran_service port count written after exit) stage image next was last over
 
 -- ---- any number of runs
 

@@ -43,7 +43,7 @@ module _ {D : Type 0} {g : Ghosts D} where
   pub spared_left : (image : Image) (A B : Files D → Type 0) (Fails : Files D → Leftover D g → Type 0)
       → ((files : Files D) → A files → B files → (image_of g files ≡ image) × ((later : Image) → outcomes g files.log files.db later → later ≡ image))
       → (left : Option (Leftover D g)) → IfSome left (λ rest. (files : Files D) × A files × B files × (IsCleanLeft rest → Fails files rest × LeavesFiles files rest))
-      → IfSome left (λ it. SparesTables image it)
+      → IfSome left (SparesTables image)
   spared_left image A B Fails fresh None it = tt
   spared_left image A B Fails fresh (Some rest) it = let at = fresh it.0 it.1 it.2 in spares image it.0 rest at.0 at.1 (λ clean. (it.3 clean).1)
 

@@ -4,6 +4,7 @@ pub mod Certificates
 pub mod Closings
 pub mod Desks
 pub mod Exports
+pub mod FileAlone
 pub mod FoundDamage
 pub mod FromNoFile
 pub mod Histories
@@ -13,9 +14,11 @@ pub mod LeftTables
 pub mod NextFiles
 pub mod NextService
 pub mod NextStates
+pub mod OpenResults
 pub mod Openings
 pub mod Reopenings
 pub mod Resumptions
 pub mod RunActs
 pub mod Services
+pub mod StaysOpen
 pub mod Unopened

@@ -1,5 +1,5 @@
 -- What the two files hold after a command, by what a crash leaves of its connection.
-use Rattle.std.proofs.Common.{inl, inr, ℕ, IsTrue, IfSome, List, Option, Some, None, sym, subst, arith}
+use Rattle.std.proofs.Common.{inl, inr, ℕ, IsTrue, IfSome, List, Option, Some, None, Ok, Err, ◌≡◌, sym, subst, arith}
 use Rattle.std.proofs.Math.Logic.{∥∥₁_elim, ∥∥₁_map}
 use Rattle.sqlite_disk.specs.declared.Disk.{Ghosts}
 use Rattle.sqlite_disk.specs.declared.Files.{Files}
@@ -7,6 +7,7 @@ use Rattle.sqlite_store.specs.FileStore.{recovers, view}
 use Rattle.sqlite_store.specs.declared.store.FileStore.{FileStore}
 use Rattle.sqlite_trees.specs.Props.{Trees-set}
 use Rattle.sqlite_trees.specs.Tree.{Trees}
+use Rattle.sqlite_trees.specs.declared.error.StoreError.{StoreError}
 use Rattle.sqlite_wal.specs.Reads.{AreClean}
 use Rattle.sqlite_wal.specs.Recovery.{Image}
 use Rattle.sqlite.specs.Files.{file_state, over_files}
@@ -18,7 +19,8 @@ use Rattle.office_rules.specs.Rows.{rows_of}
 use Rattle.office_rules.specs.State.{State}
 use Rattle.office_store.specs.RepresentsRows.{RepresentsRowsIn}
 use Rattle.office_command_line.specs.Orders.{Command}
-use Rattle.office_commands.specs.Files.{ContainedOffice, IsClosedCopy, IsLeftOf, IsUnclosed, IsUnopenedLeft, RunsInFiles, ServesInFiles}
+use Rattle.office_commands.specs.Files.{ContainedOffice, IsClosedCopy, IsLeftOf, IsUnclosed, RunsInFiles, ServesInFiles}
+use Rattle.office_commands.specs.OpenResult.{OpenResult}
 use Rattle.office_commands.specs.NextCommand.{ContainOffice, ContainWholeOffice, IsLeftBy, IsServedTo, LeavesAt, LeavesFilesAt, StaysOffice}
 use Rattle.office_life.specs.Tables.{ContainTables, IsOfficeAt}
 use Rattle.office_life.proofs.LeftTables.{database_of, leaves_tables}
@@ -43,14 +45,12 @@ module _ {D : Type 0} {g : Ghosts D} (old : Image) (s : State) (Is : State → T
   stays_office (leftover.Store it) spared whole = λ clean trees may.
       subst (λ (t : Trees). IsOfficeAt t s) (sym (∥∥₁_elim whole.contained (Trees-set _ _) (λ (h : ContainTables old whole.trees). (spared clean trees may).contained whole.trees h))) whole.office
 
-  some_stays : (rest : Option (Leftover D g)) → IfSome rest (λ it. SparesTables old it) → (ContainWholeOffice old s → IfSome rest (λ it. StaysOffice s it))
+  some_stays : (rest : Option (Leftover D g)) → IfSome rest (SparesTables old) → (ContainWholeOffice old s → IfSome rest (λ it. StaysOffice s it))
   some_stays None spared = λ whole. tt
   some_stays (Some rest) spared = λ whole. stays_office rest spared whole
 
-  pub unopened_at : (left : FilesLeft D g) → IsUnopenedLeft old left → LeavesFilesAt old s Is left
-  unopened_at (files.Unopened rest) spared = some_stays rest spared
-  unopened_at (files.Closed it) none = absurd none
-  unopened_at (files.Unclosed store) none = absurd none
+  pub refused_at : (back : Option (Leftover D g)) (left : FilesLeft D g) → left ≡ files.Unopened back → IfSome back (SparesTables old) → LeavesFilesAt old s Is left
+  refused_at back left is spared = subst (LeavesFilesAt old s Is) (sym is) (some_stays back spared)
 
   -- ---- of files that were closed, or not
 
@@ -67,8 +67,8 @@ module _ {D : Type 0} {g : Ghosts D} (old : Image) (s : State) (Is : State → T
           λ image may. record { trees = trees; contained = copy.left image may; office = at.2 },
         )
 
-    unclosed_at : (store : FileStore D g) → IsUnclosed last store → LeavesFilesAt {g = g} old s Is (files.Unclosed store)
-    unclosed_at store it clean known image may =
+    unclosed_at : (store : FileStore D g) (why : StoreError) → IsUnclosed last store why → LeavesFilesAt {g = g} old s Is (files.Unclosed store why)
+    unclosed_at store why it clean known image may =
         let closed = it.closed in
         let numbered : IsTrue (view store).is_numbered = elim known [ inl on ↦ it.numbered clean on | inr is ↦ is ] in
         let doubted = closed.quiet.clean in
@@ -82,30 +82,30 @@ module _ {D : Type 0} {g : Ghosts D} (old : Image) (s : State) (Is : State → T
     pub files_at : (left : FilesLeft D g) → IsLeftOf last left → LeavesFilesAt old s Is left
     files_at (files.Unopened rest) it = absurd it
     files_at (files.Closed it) copied = closed_at it copied
-    files_at (files.Unclosed store) closed = unclosed_at store closed
+    files_at (files.Unclosed store why) closed = unclosed_at store why closed
 
 -- each command leaves its files so
-pub command_leaves : IsOneDatabase → StaySound → IsEnded → {D : Type 0} {g : Ghosts D} (image : Image) (s : State) (order : Command) (text : List ℕ) (written after : Option (List ℕ)) (exit : Exit) (left : FilesLeft D g)
-    → ContainOffice image s → RunsInFiles left image order (Some text) written after exit → LeavesFilesAt image s (IsLeftBy order text written after exit s) left
-command_leaves one stay ends image s order text written after exit left holds (inl none) = unopened_at image s (IsLeftBy order text written after exit s) left none.1
-command_leaves one stay ends image s order text written after exit left holds (inr (last, over, is_left)) =
+pub command_leaves : IsOneDatabase → StaySound → IsEnded → {D : Type 0} {g : Ghosts D} (image : Image) (s : State) (order : Command) (text : List ℕ) (written after : Option (List ℕ)) (exit : Exit) (opened : OpenResult g) (left : FilesLeft D g)
+    → ContainOffice image s → RunsInFiles left image opened order (Some text) written after exit → LeavesFilesAt image s (IsLeftBy order text written after exit s) left
+command_leaves one stay ends image s order text written after exit (Err e) left holds it = refused_at image s (IsLeftBy order text written after exit s) e.1 left it.given it.kept
+command_leaves one stay ends image s order text written after exit (Ok was) left holds (last, over, is_left) =
     let ed = holds.office.schema_version in
     let contained : ContainedOffice ed image holds.trees = record { contained = holds.contained; office = holds.office.office } in
     files_at image s (IsLeftBy order text written after exit s) last
     (λ clean.
-    let was = over.opened.rest clean ed holds.trees contained in
-    command_left one stay ends over_files over.was last s clean holds.office.sound ed was.0 (subst (RepresentsRowsIn ed (rows_of s)) (sym was.1) holds.office.rows) order text written after exit over.ends)
+    let at = over.opened.rest clean ed holds.trees contained in
+    command_left one stay ends over_files was last s clean holds.office.sound ed at.0 (subst (RepresentsRowsIn ed (rows_of s)) (sym at.1) holds.office.rows) order text written after exit over.ends)
     over.stays left is_left
 
 -- and so does a service
-pub service_leaves : IsOneDatabase → StaySound → IsEnded → {D : Type 0} {g : Ghosts D} (image : Image) (s : State) (port count : ℕ) (written after : Option (List ℕ)) (exit : Exit) (left : FilesLeft D g)
-    → ContainOffice image s → ServesInFiles left image port count written after exit → LeavesFilesAt image s (IsServedTo s) left
-service_leaves one stay ends image s port count written after exit left holds (inl none) = unopened_at image s (IsServedTo s) left none.1
-service_leaves one stay ends image s port count written after exit left holds (inr (last, over, is_left)) =
+pub service_leaves : IsOneDatabase → StaySound → IsEnded → {D : Type 0} {g : Ghosts D} (image : Image) (s : State) (port count : ℕ) (written after : Option (List ℕ)) (exit : Exit) (opened : OpenResult g) (left : FilesLeft D g)
+    → ContainOffice image s → ServesInFiles left image opened port count written after exit → LeavesFilesAt image s (IsServedTo s) left
+service_leaves one stay ends image s port count written after exit (Err e) left holds it = refused_at image s (IsServedTo s) e.1 left it.given it.kept
+service_leaves one stay ends image s port count written after exit (Ok was) left holds (last, over, is_left) =
     let ed = holds.office.schema_version in
     let contained : ContainedOffice ed image holds.trees = record { contained = holds.contained; office = holds.office.office } in
     files_at image s (IsServedTo s) last
     (λ clean.
-    let was = over.opened.rest clean ed holds.trees contained in
-    service_left one stay ends over_files over.was last s clean holds.office.sound ed was.0 (subst (RepresentsRowsIn ed (rows_of s)) (sym was.1) holds.office.rows) port count written after exit over.ends)
+    let at = over.opened.rest clean ed holds.trees contained in
+    service_left one stay ends over_files was last s clean holds.office.sound ed at.0 (subst (RepresentsRowsIn ed (rows_of s)) (sym at.1) holds.office.rows) port count written after exit over.ends)
     over.stays left is_left

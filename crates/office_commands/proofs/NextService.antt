@@ -108,7 +108,7 @@ module _ (stay : StaySound) (ends : IsEnded) (At : Trees → State → Type 0) (
     run_served (none_open, reported, it) = as_it_was t d it.leads
     run_served (run_stopped f, reported, it) =
         let n = it.leads.0 in
-        stop_served t (after_steps t n) (after_steps t (suc n)) (steps_to n t) (steps_to (suc n) t) (sound_steps stay n t sound) (sound_steps stay (suc n) t sound) f d it.leads.1 it.leads.2
+        stop_served t (after_steps t n) (after_steps t (suc n)) (steps_to n t) (steps_to (suc n) t) (sound_steps stay n t sound) (sound_steps stay (suc n) t sound) f d it.leads.2 it.leads.3
 
     unread_served : (r : ℕ) (f : Fault) → IsContentRead g t r (Err f) d → ServedAt t d
     unread_served r fault.Store it = inr (it.ends.poisoned refl, λ db may. (t, ([], tt, refl), office db t (record { schema_version = schema_version.Two; office = it.offices db may; sound = sound; rows = it.leaves db may })))

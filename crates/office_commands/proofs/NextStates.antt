@@ -1,6 +1,5 @@
 -- At which state a command leaves an office, whatever a crash leaves of it.
 use Rattle.std.proofs.Common.{◌≡◌, ◌⊎◌, inl, inr, ℕ, ℤ, zero, suc, ◌+◌, List, [], ◌∷◌, ◌++◌, length, take, Option, Some, None, Result, Ok, Err, refl, sym, ap, subst, ◌∙◌, append-nil, arith}
-use Rattle.std.proofs.Math.Seq.{take-length}
 use Rattle.std.specs.Prelude.{option_map}
 use Rattle.std.specs.Io.KnownBytes.{Appends}
 use Rattle.csv.specs.Reading.{strip_bom}
@@ -10,7 +9,6 @@ use Rattle.sqlite_trees.specs.declared.store.Store.{Ghosts}
 use Rattle.sqlite.specs.State.{State as FileState, HasCleanDisk}
 use Rattle.office_base.specs.declared.refusal.Refusal.{Refusal}
 use Rattle.office_base.specs.declared.refusal.Refusal.TheVariants as refused
-use Rattle.office_base.specs.Output.{AppendsSome}
 use Rattle.office_rules.specs.Acts.{after as after_acts, answers, step}
 use Rattle.office_rules.specs.Forms.{IsWellFormedAct}
 use Rattle.office_rules.specs.Rows.{rows_of}
@@ -29,7 +27,7 @@ use Rattle.office_store.specs.declared.fault.Fault.TheVariants as fault
 use Rattle.office_desk.specs.Headline.{AreWellFormed}
 use Rattle.office_desk.specs.Leaving.{StopsLeaving}
 use Rattle.office_desk.specs.Opening.{RepresentIn}
-use Rattle.office_desk.specs.Outcomes.{ActsCameTo, ActsOutcome, all_done, answers_of, stopped, answered_acts}
+use Rattle.office_desk.specs.Outcomes.{ActsCameTo, ActsOutcome, all_done, answers_of, stopped}
 use Rattle.office_desk.specs.Resumptions.{RunLeft, none_open, run_closed, run_stopped}
 use Rattle.office_desk.proofs.RunSteps.{step_run}
 use Rattle.office_json.specs.Answers.{answer_lines}
@@ -40,19 +38,19 @@ use Rattle.office_command_line.specs.Orders as command
 use Rattle.office_command_line.specs.Orders.{Command}
 use Rattle.office_command_line.specs.declared.register.Register.{Register}
 use Rattle.office_command_line.specs.declared.register.Register.TheVariants as register
-use Rattle.office_commands.specs.Applying.{Applies, IsUnread, Performs, exit_of_none}
-use Rattle.office_json.specs.Lists.{NoActs, bad_act, not_json}
-use Rattle.office_commands.specs.Certifying.{CertificateEnds}
-use Rattle.office_commands.specs.Exporting.{ExportEnds}
+use Rattle.office_commands.specs.Applying.{Applies, IsUnread, Performs}
+use Rattle.office_commands.specs.Certifying.{CertificateEnds, Certifies, IsCertificate}
+use Rattle.office_commands.specs.Exporting.{ExportEnds, Exports, IsRegister, IsRegisterText}
+use Rattle.office_wire.specs.Exporting.{IsSomeOut}
 use Rattle.office_wire.specs.declared.record_import.ImportStop.{ImportStop}
 use Rattle.office_wire.specs.declared.record_import.ImportStop.TheVariants as import
 use Rattle.office_commands.specs.Importing.{AreImported, ImportsAt, IsRowCut, exit_of_import}
 use Rattle.office_life.specs.Tables.{IsOfficeAt}
-use Rattle.office_commands.specs.NextCommand.{AreActsDone, AreRowsAdded, AreStepsTaken, AreWritten, IsLeftBy, IsUntouched, LeavesAt, SaysAll}
+use Rattle.office_commands.specs.NextCommand.{AreActsDone, AreRowsAdded, IsAfterActs, IsFaultAlone, IsLeftBy, IsNotApplied, IsNotImported, IsRunResumed, IsUntouched, IsVersionReported, LeavesAt, ReadsAt, SaysAll}
 use Rattle.office_commands.specs.Calling.{Reports}
 use Rattle.office_commands.specs.ExitStatuses.{exit_of_acts}
 use Rattle.office_commands.specs.Opening.{EndsOpenFailed, FromOpened, IsOpened, IsRestKept, OfficeOpenFailed}
-use Rattle.office_commands.specs.Resuming.{ResumeEnds, Resumes}
+use Rattle.office_commands.specs.Resuming.{IsRunReported, ResumeEnds, Resumes}
 use Rattle.office_commands.specs.Making.{InitEnds}
 use Rattle.office_commands.specs.Running.{RunEnds}
 use Rattle.office_commands.specs.declared.exit.Exit.{Exit}
@@ -78,24 +76,6 @@ fault_not_all f exit is (inr some) = let other : how.Fault f ≡ how.SomeRefused
 file_not_all : (exit : Exit) → exit ≡ how.File → SaysAll exit → ⊥
 file_not_all exit is (inl done) = let other : how.File ≡ how.Done = sym is ∙ done in cc
 file_not_all exit is (inr some) = let other : how.File ≡ how.SomeRefused = sym is ∙ some in cc
-
-none_not_all : (why : NoActs) (exit : Exit) → exit ≡ exit_of_none why → SaysAll exit → ⊥
-none_not_all not_json exit is (inl done) = let other : how.NotJson ≡ how.Done = sym is ∙ done in cc
-none_not_all not_json exit is (inr some) = let other : how.NotJson ≡ how.SomeRefused = sym is ∙ some in cc
-none_not_all (bad_act place why) exit is (inl done) = let other : how.ActRefused place why ≡ how.Done = sym is ∙ done in cc
-none_not_all (bad_act place why) exit is (inr some) = let other : how.ActRefused place why ≡ how.SomeRefused = sym is ∙ some in cc
-
-unread_not_all : (text : List ℕ) (exit : Exit) → IsUnread text exit → SaysAll exit → ⊥
-unread_not_all text exit (inl (why, none, is)) = none_not_all why exit is
-unread_not_all text exit (inr is) = fault_not_all fault.Memory exit is
-
-text_not_all : (exit : Exit) → (exit ≡ how.File) ⊎ (exit ≡ how.Fault fault.Memory) → SaysAll exit → ⊥
-text_not_all exit (inl is) = file_not_all exit is
-text_not_all exit (inr is) = fault_not_all fault.Memory exit is
-
-header_not_all : (exit : Exit) → exit ≡ how.CsvHeader → SaysAll exit → ⊥
-header_not_all exit is (inl done) = let other : how.CsvHeader ≡ how.Done = sym is ∙ done in cc
-header_not_all exit is (inr some) = let other : how.CsvHeader ≡ how.SomeRefused = sym is ∙ some in cc
 
 row_not_all : (number : ℕ) (exit : Exit) → exit ≡ how.CsvRow number → SaysAll exit → ⊥
 row_not_all number exit is (inl done) = let other : how.CsvRow number ≡ how.Done = sym is ∙ done in cc
@@ -192,87 +172,82 @@ module _ (stay : StaySound) (ends : IsEnded) (At : Trees → State → Type 0) (
   has_stopped : (v w : State) (f : Fault) → IsSound v → IsSound w → StopsLeaving v w f new → (db : Trees) → new.may_leave db → At db v ⊎ At db w
   has_stopped v w f sv sw left db may = elim (at_stop new v w f sv sw left db may) [ inl here ↦ inl (office db v here) | inr next ↦ inr (office db w next) ]
 
-  -- the state is left
-  same_left : ((db : Trees) → new.may_leave db → At db s) → LeavesSo (λ u. u ≡ s)
-  same_left at db may = (s, refl, at db may)
-
   untouched : (Is : State → Type 0) (written after : Option (List ℕ)) → (IsUntouched written after s s → Is s) → after ≡ written → ((db : Trees) → new.may_leave db → At db s) → LeavesSo Is
   untouched Is written after is same at db may = (s, is (refl, same), at db may)
 
-  not_opened : (written after : Option (List ℕ)) (exit : Exit) → EndsOpenFailed old new written after exit → ((db : Trees) → new.may_leave db → At db s) × (after ≡ written)
-  not_opened written after exit it = (at_unopened it.0 it.2, it.3)
+  -- only a fault was reported
+  fault_left : (Is : State → Type 0) (written after : Option (List ℕ)) (exit : Exit) → (IsFaultAlone written after exit s s → Is s) → EndsOpenFailed old new written after exit → LeavesSo Is
+  fault_left Is written after exit is none db may =
+      (s, is (record { fault = none.0; reported = none.1; untouched = (refl, none.3) }), at_unopened none.0 none.2 db may)
 
-  opened_left : IsOpened old new → LeavesSo (λ u. u ≡ s)
-  opened_left it = same_left (has_rows s sound (of_opened (λ t. ContainsRows (rows_of t) new) it.opened))
+  -- the office was opened and left at its state, and something was reported of it
+  reads_left : (Is : Type 0) (written after : Option (List ℕ)) (exit : Exit) → Is → IsOpened old new → LeavesSo (ReadsAt Is written after exit s)
+  reads_left Is written after exit is opened db may = (s, inr (is, refl), has_rows s sound (of_opened (λ t. ContainsRows (rows_of t) new) opened.opened) db may)
 
   -- ---- init
 
-  init_left : (written after : Option (List ℕ)) (exit : Exit) → InitEnds old new written after exit → LeavesSo (λ u. u ≡ s)
-  init_left written after exit (inl none) = same_left (not_opened written after exit none).0
-  init_left written after exit (inr done) = opened_left done.0
+  init_left : (written after : Option (List ℕ)) (exit : Exit) → InitEnds old new written after exit → LeavesSo (ReadsAt (IsVersionReported written after exit) written after exit s)
+  init_left written after exit (inl none) = fault_left (ReadsAt (IsVersionReported written after exit) written after exit s) written after exit (λ alone. inl alone) none
+  init_left written after exit (inr done) = reads_left (IsVersionReported written after exit) written after exit done.1 done.0
 
   -- ---- the readings
 
-  export_left : (it : Register) (written after : Option (List ℕ)) (exit : Exit) → ExportEnds it old new written after exit → LeavesSo (λ u. u ≡ s)
-  export_left it written after exit (inl none) = same_left (not_opened written after exit none).0
-  export_left it written after exit (inr done) = opened_left done.0
+  exports_at : (it : Register) (written after : Option (List ℕ)) (exit : Exit) → Exports (FromOpened old new) it written after exit → Exports (λ Is. Is s) it written after exit
+  exports_at it written after exit (inl (done, at)) = inl (done, of_opened (λ t. IsRegister it written after t.office) at)
+  exports_at it written after exit (inr (why, at)) = inr (why, of_opened (λ t. IsSomeOut (IsRegisterText it) t.office written after) at)
 
-  certificate_left : (run : ℕ) (written after : Option (List ℕ)) (exit : Exit) → CertificateEnds run old new written after exit → LeavesSo (λ u. u ≡ s)
-  certificate_left run written after exit (inl none) = same_left (not_opened written after exit none).0
-  certificate_left run written after exit (inr done) = opened_left done.0
+  export_left : (it : Register) (written after : Option (List ℕ)) (exit : Exit) → ExportEnds it old new written after exit → LeavesSo (ReadsAt (Exports (λ Is. Is s) it written after exit) written after exit s)
+  export_left it written after exit (inl none) = fault_left (ReadsAt (Exports (λ Is. Is s) it written after exit) written after exit s) written after exit (λ alone. inl alone) none
+  export_left it written after exit (inr done) = reads_left (Exports (λ Is. Is s) it written after exit) written after exit (exports_at it written after exit done.1) done.0
+
+  certifies_at : (run : ℕ) (written after : Option (List ℕ)) (exit : Exit) → Certifies (FromOpened old new) run written after exit → Certifies (λ Is. Is s) run written after exit
+  certifies_at run written after exit (inl (text, at, reported)) = inl (text, of_opened (IsCertificate run text) at, reported)
+  certifies_at run written after exit (inr none) = inr none
+
+  certificate_left : (run : ℕ) (written after : Option (List ℕ)) (exit : Exit) → CertificateEnds run old new written after exit → LeavesSo (ReadsAt (Certifies (λ Is. Is s) run written after exit) written after exit s)
+  certificate_left run written after exit (inl none) = fault_left (ReadsAt (Certifies (λ Is. Is s) run written after exit) written after exit s) written after exit (λ alone. inl alone) none
+  certificate_left run written after exit (inr done) = reads_left (Certifies (λ Is. Is s) run written after exit) written after exit (certifies_at run written after exit done.1) done.0
 
   -- ---- apply
 
   module _ (text : List ℕ) (written after : Option (List ℕ)) where
     abbrev ActsLeft : Exit → State → Type 0
-    ActsLeft exit u = IsUntouched written after s u × (SaysAll exit → ⊥) ⊎ AreActsDone text written after exit s u
+    ActsLeft exit u = IsUntouched written after s u × IsNotApplied text exit ⊎ AreActsDone text written after exit s u
 
     module _ (acts : List Act) (read : acts_in text ≡ Ok acts) where
-      came_left : (exit : Exit) (o : ActsOutcome) → ActsCameTo s acts o new → AreWritten (answer_lines (answers s (answered_acts acts o))) written after exit → Reports (answer_lines (answers_of o)) (exit_of_acts o) written after exit → LeavesSo (ActsLeft exit)
-      came_left exit (all_done replies) it reported so db may =
-          let all : acts ≡ take (length acts) acts = sym (take-length acts) in (
-            after_acts s acts,
-            inr (record {
-              acts = acts;
-              read = read;
-              count = length acts;
-              within = omega arith;
-              answered = subst (λ (xs : List Act). AreWritten (answer_lines (answers s xs)) written after exit) all reported;
-              state = inl (ap (after_acts s) all);
-              formed = it.formed;
-              all = λ says. refl;
-            }),
-            has_rows (after_acts s acts) it.leaves.sound it.leaves.rows db may,
-          )
-      came_left exit (stopped replies f) it reported so db may =
+      came_left : (exit : Exit) (o : ActsOutcome) → ActsCameTo s acts o new → Reports (answer_lines (answers_of o)) (exit_of_acts o) written after exit → LeavesSo (ActsLeft exit)
+      came_left exit (all_done replies) it so db may = (
+        after_acts s acts,
+        inr (record { acts = acts; read = read; formed = it.formed; outcome = all_done replies; fits = it.fits; answered = it.answered; reported = so; state = refl; all = λ says. refl }),
+        has_rows (after_acts s acts) it.leaves.sound it.leaves.rows db may,
+      )
+      came_left exit (stopped replies f) it so db may =
           let not_all = stopped_not_all replies f (answer_lines replies) written after exit so in
           let n = length replies in
-          let v = after_acts s (take n acts) in
-          let w = after_acts s (take (n + 1) acts) in
           let sound_at = λ (k : ℕ). sound_acts stay (take k acts) s sound (well_formed_prefix k acts it.formed) in
-          elim (has_stopped v w f (sound_at n) (sound_at (n + 1)) it.leaves db may) [
-            | inl here ↦ (v, inr (record { acts = acts; read = read; count = n; within = it.fits.0; answered = reported; state = inl refl; formed = it.formed; all = λ says. absurd (not_all says) }), here)
-            | inr next ↦ (w, inr (record { acts = acts; read = read; count = n; within = it.fits.0; answered = reported; state = inr refl; formed = it.formed; all = λ says. absurd (not_all says) }), next)
+          let done : (u : State) → IsAfterActs s acts (stopped replies f) u → AreActsDone text written after exit s u = λ u is. record { acts = acts; read = read; formed = it.formed; outcome = stopped replies f; fits = it.fits; answered = it.answered; reported = so; state = is; all = λ says. absurd (not_all says) } in
+          elim (has_stopped (after_acts s (take n acts)) (after_acts s (take (n + 1) acts)) f (sound_at n) (sound_at (n + 1)) it.leaves db may) [
+            | inl here ↦ (after_acts s (take n acts), inr (done _ (inl refl)), here)
+            | inr next ↦ (after_acts s (take (n + 1) acts), inr (done _ (inr refl)), next)
           ]
 
       performs_left : (exit : Exit) → Performs (FromOpened old new) acts new written after exit → LeavesSo (ActsLeft exit)
-      performs_left exit it =
-          let came = of_opened (λ t. ActsCameTo t acts it.outcome new) it.came in
-          came_left exit it.outcome came (elim it.reported [
-            | inl all ↦ inl (subst (λ (xs : List Answer). Appends written after (answer_lines xs)) came.answered all.0)
-            | inr some ↦ inr (some.1, subst (λ (xs : List Answer). AppendsSome written after (answer_lines xs)) came.answered some.0)
-          ]) it.reported
+      performs_left exit it = came_left exit it.outcome (of_opened (λ t. ActsCameTo t acts it.outcome new) it.came) it.reported
+
+    not_read : (exit : Exit) → IsUnread text exit → IsNotApplied text exit
+    not_read exit (inl why) = inr (inr why)
+    not_read exit (inr is) = inl (fault.Memory, is)
 
     applies_left : (exit : Exit) → EndsOpenFailed old new written after exit ⊎ IsRestKept old new × Applies (FromOpened old new) text new written after exit → LeavesSo (ActsLeft exit)
-    applies_left exit (inl none) = let it = not_opened written after exit none in untouched (ActsLeft exit) written after (λ same. inl (same, fault_not_all none.0 exit none.1)) it.1 it.0
-    applies_left exit (inr (kept, inl unread)) = untouched (ActsLeft exit) written after (λ same. inl (same, unread_not_all text exit unread.0)) unread.2 (has_rows s sound (of_opened (λ t. ContainsRows (rows_of t) new) unread.1))
+    applies_left exit (inl none) = fault_left (ActsLeft exit) written after exit (λ alone. inl (alone.untouched, inl (alone.fault, alone.reported))) none
+    applies_left exit (inr (kept, inl unread)) = untouched (ActsLeft exit) written after (λ same. inl (same, not_read exit unread.0)) unread.2 (has_rows s sound (of_opened (λ t. ContainsRows (rows_of t) new) unread.1))
     applies_left exit (inr (kept, inr it)) = performs_left it.0 it.1 exit it.2
 
   -- ---- import
 
   module _ (day : ℤ) (text written after : Option (List ℕ)) where
     abbrev RowsLeft : Exit → State → Type 0
-    RowsLeft exit u = IsUntouched written after s u × (SaysAll exit → ⊥) ⊎ AreRowsAdded day text written after exit s u
+    RowsLeft exit u = IsUntouched written after s u × IsNotImported text exit ⊎ AreRowsAdded day text written after exit s u
 
     -- rows were added, and no more
     added : (exit : Exit) (fs : List Fields) (reported : List Answer) (u : State) → (SaysAll exit → AreAllRows text fs) → ArePrefixRows text fs → AreRowsDone day s fs reported u → Appends written after (lines_from 0 reported) ⊎ (exit ≡ how.File) × AreLinesOut reported written after → ContainsRows (rows_of u) new → LeavesSo (RowsLeft exit)
@@ -341,46 +316,53 @@ module _ (stay : StaySound) (ends : IsEnded) (At : Trees → State → Type 0) (
 
     imports_left : (exit : Exit) (done : Result ℕ ImportStop) → exit ≡ exit_of_import done → AreImported day text done new written after s → LeavesSo (RowsLeft exit)
     imports_left exit (Ok refused) is (fs, reported, u, (r, left, first, ended), it, none) = added exit fs reported u (λ says. (r, left, first, ended)) (inr (r, left, first)) it.done (inl it.reported) it.saved
-    imports_left exit (Err import.Header) is it = untouched (RowsLeft exit) written after (λ same. inl (same, header_not_all exit is)) it.2 (has_rows s sound it.1)
+    imports_left exit (Err import.Header) is it = untouched (RowsLeft exit) written after (λ same. inl (same, inr (is, it.0))) it.2 (has_rows s sound it.1)
     imports_left exit (Err (import.Row number)) is (fs, reported, u, (r, left, first, bad), it, at) = added exit fs reported u (λ says. absurd (row_not_all number exit is says)) (inr (r, left, first)) it.done (inl it.reported) it.saved
     imports_left exit (Err (import.Fault f)) is (fs, reported, u, done, lines, inl it) = added exit fs reported u (λ says. absurd (fault_not_all f exit is says)) it.1 done (inl lines) it.2
     imports_left exit (Err (import.Fault f)) is (fs, reported, u, done, lines, inr it) = cut_row exit fs reported u it.0 f (fault_not_all f exit is) it.1 done lines it.2
     imports_left exit (Err import.Io) is (fs, reported, u, prefix, done, holds, out) = added exit fs reported u (λ says. absurd (file_not_all exit is says)) prefix done (inr (is, out)) holds
 
     import_left : (exit : Exit) → EndsOpenFailed old new written after exit ⊎ ImportsAt (FromOpened old new) day text new written after exit → LeavesSo (RowsLeft exit)
-    import_left exit (inl none) = let it = not_opened written after exit none in untouched (RowsLeft exit) written after (λ same. inl (same, fault_not_all none.0 exit none.1)) it.1 it.0
+    import_left exit (inl none) = fault_left (RowsLeft exit) written after exit (λ alone. inl (alone.untouched, inl (alone.fault, alone.reported))) none
     import_left exit (inr (done, is, it)) = imports_left exit done is (of_opened (AreImported day text done new written after) it)
 
   -- ---- resume
 
-  whole_left : (exit : Exit) (run : ℕ) → open_run s.office ≡ Some run → ContainsRows (rows_of (whole s run)) new → LeavesSo (AreStepsTaken exit s)
-  whole_left exit run is_open holds db may =
-      let n = suc (length (candidates s.office run)) in
-      let is : whole s run ≡ after_steps s n = sym (ends s run is_open) in (
-        whole s run,
-        record { count = n; state = is; closed = λ done. (run, is_open, refl) },
-        has_rows (whole s run) (subst IsSound (sym is) (sound_steps stay n s sound)) holds db may,
-      )
+  module _ (written after : Option (List ℕ)) (exit : Exit) where
+    abbrev RunLeftSo : State → Type 0
+    RunLeftSo u = IsFaultAlone written after exit s u ⊎ IsRunResumed written after exit s u
 
-  none_taken : (exit : Exit) → (exit ≡ how.Done → ⊥) → ((db : Trees) → new.may_leave db → At db s) → LeavesSo (AreStepsTaken exit s)
-  none_taken exit other at db may = (s, record { count = 0; state = refl; closed = λ done. absurd (other done) }, at db may)
+    whole_left : (run : ℕ) → open_run s.office ≡ Some run → IsRunReported (run_closed run) written after exit → ContainsRows (rows_of (whole s run)) new → LeavesSo RunLeftSo
+    whole_left run is_open reported holds db may =
+        let n = suc (length (candidates s.office run)) in
+        let is : whole s run ≡ after_steps s n = sym (ends s run is_open) in (
+          whole s run,
+          inr (record { outcome = run_closed run; fits = is_open; reported = reported; count = n; steps = is; state = refl; closed = λ done. (run, is_open, refl) }),
+          has_rows (whole s run) (subst IsSound (sym is) (sound_steps stay n s sound)) holds db may,
+        )
 
-  resumes_left : (written after : Option (List ℕ)) (exit : Exit) → Resumes (FromOpened old new) new written after exit → LeavesSo (AreStepsTaken exit s)
-  resumes_left written after exit (run_closed run, it, reported) = let at = of_opened (RunLeft (run_closed run) new) it in whole_left exit run at.fits at.leaves
-  resumes_left written after exit (none_open, it, reported) =
-      none_taken exit (λ done. let other : how.Refused refused.NoRun ≡ how.Done = sym reported.0 ∙ done in cc) (has_rows s sound (of_opened (RunLeft none_open new) it).leaves)
-  resumes_left written after exit (run_stopped f, it, reported) =
-      let at = of_opened (RunLeft (run_stopped f) new) it in
-      let n = at.leaves.0 in
-      let not_done : exit ≡ how.Done → ⊥ = λ done. let other : how.Fault f ≡ how.Done = sym reported.0 ∙ done in cc in
-      λ db may. elim (has_stopped (after_steps s n) (after_steps s (suc n)) f (sound_steps stay n s sound) (sound_steps stay (suc n) s sound) at.leaves.1 db may) [
-        | inl here ↦ (after_steps s n, record { count = n; state = refl; closed = λ done. absurd (not_done done) }, here)
-        | inr next ↦ (after_steps s (suc n), record { count = suc n; state = refl; closed = λ done. absurd (not_done done) }, next)
-      ]
+    resumes_left : Resumes (FromOpened old new) new written after exit → LeavesSo RunLeftSo
+    resumes_left (run_closed run, it, reported) db may = let at = of_opened (RunLeft (run_closed run) new) it in whole_left run at.fits reported at.leaves db may
+    resumes_left (none_open, it, reported) db may =
+        let at = of_opened (RunLeft none_open new) it in
+        let not_done : exit ≡ how.Done → ⊥ = λ done. let other : how.Refused refused.NoRun ≡ how.Done = sym reported.0 ∙ done in cc in (
+          s,
+          inr (record { outcome = none_open; fits = at.fits; reported = reported; count = 0; steps = refl; state = refl; closed = λ done. absurd (not_done done) }),
+          has_rows s sound at.leaves db may,
+        )
+    resumes_left (run_stopped f, it, reported) db may =
+        let at = of_opened (RunLeft (run_stopped f) new) it in
+        let n = at.leaves.0 in
+        let not_done : exit ≡ how.Done → ⊥ = λ done. let other : how.Fault f ≡ how.Done = sym reported.0 ∙ done in cc in
+        let taken : (k : ℕ) → IsRunResumed written after exit s (after_steps s k) = λ k. record { outcome = run_stopped f; fits = tt; reported = reported; count = k; steps = refl; state = tt; closed = λ done. absurd (not_done done) } in
+        elim (has_stopped (after_steps s n) (after_steps s (suc n)) f (sound_steps stay n s sound) (sound_steps stay (suc n) s sound) at.leaves.2 db may) [
+          | inl here ↦ (after_steps s n, inr (taken n), here)
+          | inr next ↦ (after_steps s (suc n), inr (taken (suc n)), next)
+        ]
 
-  resume_left : (written after : Option (List ℕ)) (exit : Exit) → ResumeEnds old new written after exit → LeavesSo (AreStepsTaken exit s)
-  resume_left written after exit (inl none) = none_taken exit (λ done. let other : how.Fault none.0 ≡ how.Done = sym none.1 ∙ done in cc) (not_opened written after exit none).0
-  resume_left written after exit (inr it) = resumes_left written after exit it.1
+    resume_left : ResumeEnds old new written after exit → LeavesSo RunLeftSo
+    resume_left (inl none) = fault_left RunLeftSo written after exit (λ alone. inl alone) none
+    resume_left (inr it) = resumes_left it.1
 
 -- ---- each command
 
@@ -395,13 +377,17 @@ module _ (stay : StaySound) (ends : IsEnded) (At : Trees → State → Type 0) (
   same_held : (Is : State → Type 0) → Is s → new ≡ old → LeftSo Is new
   same_held Is is same = subst (LeftSo Is) (sym same) (λ db may. (s, is, before db may))
 
+  no_text : (text : List ℕ) (exit : Exit) → (exit ≡ how.File) ⊎ (exit ≡ how.Fault fault.Memory) → IsNotApplied text exit
+  no_text text exit (inl is) = inr (inl is)
+  no_text text exit (inr is) = inl (fault.Memory, is)
+
   pub command_so : (order : Command) (text : List ℕ) (written after : Option (List ℕ)) (exit : Exit) → RunEnds g order (Some text) old new written after exit → LeftSo (IsLeftBy order text written after exit s) new
-  command_so command.nothing text written after exit it = same_held (λ u. u ≡ s) refl it.1
-  command_so (command.due unit count offset day) text written after exit it = same_held (λ u. u ≡ s) refl it.1
-  command_so (command.plan file) text written after exit it = same_held (λ u. u ≡ s) refl it.1
-  command_so (command.serve file port count) text written after exit it = same_held (λ u. u ≡ s) refl it.1
+  command_so command.nothing text written after exit it = same_held (IsUntouched written after s) (refl, it.2) it.1
+  command_so (command.due unit count offset day) text written after exit it = same_held (IsUntouched written after s) (refl, it.2) it.1
+  command_so (command.plan file) text written after exit it = same_held (IsUntouched written after s) (refl, it.2) it.1
+  command_so (command.serve file port count) text written after exit it = same_held (IsUntouched written after s) (refl, it.2) it.1
   command_so (command.init file) text written after exit it = init_left stay ends At office (state g old) (state g new) s sound of_opened at_unopened written after exit it
-  command_so (command.apply file acts) text written after exit (inl none) = same_held (IsLeftBy (command.apply file acts) text written after exit s) (inl ((refl, none.2), text_not_all exit none.0)) none.1
+  command_so (command.apply file acts) text written after exit (inl none) = same_held (IsLeftBy (command.apply file acts) text written after exit s) (inl ((refl, none.2), no_text text exit none.0)) none.1
   command_so (command.apply file acts) text written after exit (inr it) = applies_left stay ends At office (state g old) (state g new) s sound of_opened at_unopened text written after exit it
   command_so (command.import file day csv) text written after exit it = import_left stay ends At office (state g old) (state g new) s sound of_opened at_unopened day (option_map strip_bom (Some text)) written after exit it
   command_so (command.overdue file day n) text written after exit it = export_left stay ends At office (state g old) (state g new) s sound of_opened at_unopened (register.Overdue day n) written after exit it

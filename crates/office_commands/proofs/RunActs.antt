@@ -1,5 +1,5 @@
 -- The acts that runs of the program did, and the contents that they report.
-use Rattle.std.proofs.Common.{◌≡◌, ◌∙◌, inl, inr, ℕ, ℤ, List, [], ◌∷◌, ◌++◌, take, ◌+◌, Option, Some, Result, Ok, Err, refl, sym, ap, subst}
+use Rattle.std.proofs.Common.{◌≡◌, ◌∙◌, inl, inr, ℕ, ℤ, List, [], ◌∷◌, ◌++◌, take, length, ◌+◌, Option, Some, Result, Ok, Err, refl, sym, ap, subst}
 use Rattle.office_base.specs.declared.refusal.Refusal.{Refusal}
 use Rattle.office_rules.specs.Acts.{after as after_acts}
 use Rattle.office_rules.specs.Sound.{IsSound}
@@ -9,6 +9,7 @@ use Rattle.office_rules.specs.declared.answer.Answer.{Answer}
 use Rattle.office_desk.specs.Fates.{AreContentsAfter}
 use Rattle.office_desk.proofs.Found.{after-append}
 use Rattle.office_desk.specs.Headline.{AreWellFormed}
+use Rattle.office_desk.specs.Outcomes.{ActsOutcome, all_done, stopped}
 use Rattle.office_commands.proofs.NextService.{formed-append, well_formed_steps}
 use Rattle.office_commands.proofs.NextStates.{well_formed_prefix}
 use Rattle.office_desk.proofs.StepFates.{after_run, run_steps}
@@ -17,7 +18,7 @@ use Rattle.office_wire.specs.Importing.{AreRowsDone, IsAnsweredBy}
 use Rattle.office_command_line.specs.Orders as command
 use Rattle.office_command_line.specs.Orders.{Command}
 use Rattle.office_commands.specs.FileHistory.{ActsOfRuns, IsLeftAt, ProgramRun, ReportsContents, StateHistory, led, no_run, one_run, ran_command, ran_service, stayed}
-use Rattle.office_commands.specs.NextCommand.{IsLeftBy}
+use Rattle.office_commands.specs.NextCommand.{IsAfterActs, IsLeftBy, ReadsAt}
 use Rattle.office_commands.specs.declared.exit.Exit.{Exit}
 
 -- acts lead there
@@ -42,28 +43,36 @@ rows_to day s t (row ∷ rows) answers (answer, rest, m, reported, one, all) = f
 
 -- ---- one run
 
+acts_to : (s u : State) (acts : List Act) (o : ActsOutcome) → AreWellFormed acts → IsAfterActs s acts o u → LeadsTo s u
+acts_to s u acts (all_done replies) formed is = (acts, formed, is)
+acts_to s u acts (stopped replies f) formed (inl is) = (take (length replies) acts, well_formed_prefix (length replies) acts formed, is)
+acts_to s u acts (stopped replies f) formed (inr is) = (take (length replies + 1) acts, well_formed_prefix (length replies + 1) acts formed, is)
+
+reading_to : {Is : Type 0} (written after : Option (List ℕ)) (exit : Exit) (s u : State) → ReadsAt Is written after exit s u → LeadsTo s u
+reading_to written after exit s u (inl alone) = none_to s u alone.untouched.0
+reading_to written after exit s u (inr (is, same)) = none_to s u same
+
 order_to : (order : Command) (text : List ℕ) (written after : Option (List ℕ)) (exit : Exit) (s u : State) → IsLeftBy order text written after exit s u → LeadsTo s u
-order_to (command.apply file acts) text written after exit s u (inl (none, not_all)) = none_to s u none.0
-order_to (command.apply file acts) text written after exit s u (inr it) = elim it.state [ inl is ↦ (take it.count it.acts, well_formed_prefix it.count it.acts it.formed, is) | inr is ↦ (take (it.count + 1) it.acts, well_formed_prefix (it.count + 1) it.acts it.formed, is) ]
-order_to (command.import file day csv) text written after exit s u (inl (none, not_all)) = none_to s u none.0
+order_to (command.apply file acts) text written after exit s u (inl (none, why)) = none_to s u none.0
+order_to (command.apply file acts) text written after exit s u (inr it) = acts_to s u it.acts it.outcome it.formed it.state
+order_to (command.import file day csv) text written after exit s u (inl (none, why)) = none_to s u none.0
 order_to (command.import file day csv) text written after exit s u (inr it) =
     let reached = rows_to day s it.reached it.rows it.answers it.done in
     elim it.state [ inl is ↦ subst (LeadsTo s) (sym is) reached | inr more ↦ further s it.reached u reached (row_to it.reached u more.1 (parsed_row day more.0) more.3) ]
-order_to (command.resume file) text written after exit s u it = (run_steps it.count, well_formed_steps it.count, it.state ∙ sym (after_run it.count s))
-order_to (command.init file) text written after exit s u same = none_to s u same
-order_to (command.export file register) text written after exit s u same = none_to s u same
-order_to (command.overdue file day n) text written after exit s u same = none_to s u same
-order_to (command.certificate file run) text written after exit s u same = none_to s u same
-order_to (command.serve file port count) text written after exit s u same = none_to s u same
-order_to (command.plan file) text written after exit s u same = none_to s u same
-order_to (command.due unit count offset day) text written after exit s u same = none_to s u same
-order_to command.nothing text written after exit s u same = none_to s u same
+order_to (command.resume file) text written after exit s u (inl alone) = none_to s u alone.untouched.0
+order_to (command.resume file) text written after exit s u (inr it) = (run_steps it.count, well_formed_steps it.count, it.steps ∙ sym (after_run it.count s))
+order_to (command.init file) text written after exit s u it = reading_to written after exit s u it
+order_to (command.export file register) text written after exit s u it = reading_to written after exit s u it
+order_to (command.overdue file day n) text written after exit s u it = reading_to written after exit s u it
+order_to (command.certificate file run) text written after exit s u it = reading_to written after exit s u it
+order_to (command.serve file port count) text written after exit s u none = none_to s u none.0
+order_to (command.plan file) text written after exit s u none = none_to s u none.0
+order_to (command.due unit count offset day) text written after exit s u none = none_to s u none.0
+order_to command.nothing text written after exit s u none = none_to s u none.0
 
 run_to : (run : ProgramRun) (s u : State) → IsLeftAt run s u → LeadsTo s u
-run_to (ran_command order text written after exit) s u (inl same) = none_to s u same.1
-run_to (ran_command order text written after exit) s u (inr it) = order_to order text written after exit s u it
-run_to (ran_service port count written after exit) s u (inl same) = none_to s u same.1
-run_to (ran_service port count written after exit) s u (inr it) = (it.0, it.1, it.2)
+run_to (ran_command order text written after exit) s u it = order_to order text written after exit s u it
+run_to (ran_service port count written after exit) s u it = it
 
 -- ---- any number of runs
 

@@ -26,11 +26,10 @@ use Rattle.office_life.specs.declared.reports.Remains.TheVariants as remains
 use Rattle.office_command_line.specs.Orders.{Command}
 use Rattle.office_commands.specs.Files.{EndsOver, RunsInFiles, ServesInFiles}
 use Rattle.office_commands.specs.NextCommand.{IsLeftBy, IsServedTo}
+use Rattle.office_commands.specs.OpenResult.{OpenResult}
 use Rattle.office_commands.specs.Running.{RunEnds}
 use Rattle.office_commands.specs.Serving.{ServiceEnds}
-use Rattle.office_store.specs.declared.fault.Fault.TheVariants as fault
 use Rattle.office_commands.specs.declared.exit.Exit.{Exit}
-use Rattle.office_commands.specs.declared.exit.Exit.TheVariants as how
 use Rattle.office_commands.specs.declared.office_files.FilesLeft.{FilesLeft}
 use Rattle.office_commands.specs.declared.office_files.FilesLeft.TheVariants as files
 
@@ -41,31 +40,26 @@ pub data ProgramRun : Type 0 where
   ran_command : Command → List ℕ → Option (List ℕ) → Option (List ℕ) → Exit → ProgramRun
   ran_service : ℕ → ℕ → Option (List ℕ) → Option (List ℕ) → Exit → ProgramRun
 
--- it was run over files that held this, and left these
-abbrev pub WasRun : {D : Type 0} {g : Ghosts D} → ProgramRun → Image → FilesLeft D g → Type 0
-WasRun (ran_command order text written after exit) image left = RunsInFiles left image order (Some text) written after exit
-WasRun (ran_service port count written after exit) image left = ServesInFiles left image port count written after exit
+-- it was run over files that held this and were opened with that result, and left these
+abbrev pub WasRun : {D : Type 0} {g : Ghosts D} → ProgramRun → Image → OpenResult g → FilesLeft D g → Type 0
+WasRun (ran_command order text written after exit) image opened left =
+    RunsInFiles left image opened order (Some text) written after exit
+WasRun (ran_service port count written after exit) image opened left =
+    ServesInFiles left image opened port count written after exit
 
--- it was killed over files that held this, once its last call had left this connection; it closed nothing, so nothing is
--- said of files that it left
-abbrev pub WasKilled : {D : Type 0} {g : Ghosts D} → ProgramRun → Image → Held (FileStore D g) → Type 0
-WasKilled (ran_command order text written after exit) image last =
-    EndsOver (files.Unopened None) image (λ was last. RunEnds over_files order (Some text) was last written after exit) last
-WasKilled (ran_service port count written after exit) image last =
-    EndsOver (files.Unopened None) image (λ was last. ServiceEnds over_files port count was last written after exit) last
+-- it was killed over files that held this and were opened as the first connection, once its last call had left the
+-- second; it closed nothing, so nothing is said of files that it left
+abbrev pub WasKilled : {D : Type 0} {g : Ghosts D} → ProgramRun → Image → Held (FileStore D g) → Held (FileStore D g)
+    → Type 0
+WasKilled (ran_command order text written after exit) image =
+    EndsOver (files.Unopened None) image (λ was last. RunEnds over_files order (Some text) was last written after exit)
+WasKilled (ran_service port count written after exit) image =
+    EndsOver (files.Unopened None) image (λ was last. ServiceEnds over_files port count was last written after exit)
 
--- the run says that it opened nothing: fault 31, with nothing written
-abbrev pub SaysUnopened : ProgramRun → Type 0
-SaysUnopened (ran_command order text written after exit) = (exit ≡ how.Fault fault.Store) × (after ≡ written)
-SaysUnopened (ran_service port count written after exit) = (exit ≡ how.Fault fault.Store) × (after ≡ written)
-
--- the state at which it leaves an office that was at one: what its command says; or the same, if it says that it opened
--- nothing
+-- the state at which it leaves an office that was at one
 abbrev pub IsLeftAt : ProgramRun → State → State → Type 0
-IsLeftAt (ran_command order text written after exit) s u =
-    SaysUnopened (ran_command order text written after exit) × (u ≡ s) ⊎ IsLeftBy order text written after exit s u
-IsLeftAt (ran_service port count written after exit) s u =
-    SaysUnopened (ran_service port count written after exit) × (u ≡ s) ⊎ IsServedTo s u
+IsLeftAt (ran_command order text written after exit) = IsLeftBy order text written after exit
+IsLeftAt (ran_service port count written after exit) = IsServedTo
 
 -- ---- what the next run finds
 
@@ -74,7 +68,7 @@ abbrev pub remains_left : {D : Type 0} {g : Ghosts D} → FilesLeft D g → Rema
 remains_left (files.Unopened None) = remains.Same
 remains_left (files.Unopened (Some it)) = remains_of it
 remains_left (files.Closed it) = remains.Held
-remains_left (files.Unclosed store) = remains.Held
+remains_left (files.Unclosed store why) = remains.Held
 
 -- of files that were not opened the next run finds what a crash may leave of them, and so may what they read
 abbrev pub IsFoundOf : {D : Type 0} {g : Ghosts D} → Leftover D g → Image → Type 0
@@ -87,7 +81,7 @@ abbrev pub IsFoundNext : {D : Type 0} {g : Ghosts D} → FilesLeft D g → Image
 IsFoundNext (files.Unopened None) next = ⊥
 IsFoundNext (files.Unopened (Some it)) next = IsFoundOf it next
 IsFoundNext {g = g} (files.Closed it) next = AreClean g it.log it.db × outcomes g it.log it.db next
-IsFoundNext (files.Unclosed store) next =
+IsFoundNext (files.Unclosed store why) next =
     IsClean (view store) × (IsTrue (view store).is_open ⊎ IsTrue (view store).is_numbered)
     × (store_state store).may_leave next
 
@@ -107,15 +101,15 @@ RunLeads run was image is next =
 -- each run leads so, over whatever disk
 abbrev pub RunsLead : {D : Type 0} → Ghosts D → Type 0
 RunsLead {D} g =
-    (run : ProgramRun) (stage : Stage) (image next : Image) (left : FilesLeft D g) → WasRun run image left
-    → IsKnownAt stage (remains_left left) → IsFoundNext left next
+    (run : ProgramRun) (stage : Stage) (image next : Image) (opened : OpenResult g) (left : FilesLeft D g)
+    → WasRun run image opened left → IsKnownAt stage (remains_left left) → IsFoundNext left next
     → RunLeads run stage image (stage_after stage (remains_left left)) next
 
 -- and so does each that was killed
 abbrev pub KilledRunsLead : {D : Type 0} → Ghosts D → Type 0
 KilledRunsLead {D} g =
-    (run : ProgramRun) (stage : Stage) (image next : Image) (last : Held (FileStore D g)) → WasKilled run image last
-    → IsLeftKilled last next → RunLeads run stage image stored next
+    (run : ProgramRun) (stage : Stage) (image next : Image) (was last : Held (FileStore D g))
+    → WasKilled run image was last → IsLeftKilled last next → RunLeads run stage image stored next
 
 -- ---- any number of runs
 

@@ -4,11 +4,13 @@ pub mod Certifying
 pub mod Damage
 pub mod ExitStatuses
 pub mod Exporting
+pub mod FileAlone
 pub mod FileHistory
 pub mod Files
 pub mod Importing
 pub mod Making
 pub mod NextCommand
+pub mod OpenResult
 pub mod Opening
 pub mod Reopening
 pub mod Resuming

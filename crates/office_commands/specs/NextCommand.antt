@@ -1,8 +1,9 @@
 -- From one command of the program to the next: at which state a command leaves an office, and what its two files hold
 -- then. Source: own.
-use Rattle.std.specs.Prelude.{◌≡◌, ◌⊎◌, ◌+◌, ◌≤◌, ℕ, ℤ, IfSome, IsTrue, List, [], ◌∷◌, ◌++◌, length, take, Option, Ok, Some, option_map}
+use Rattle.std.specs.Prelude.{◌≡◌, ◌⊎◌, ◌+◌, ◌≤◌, ℕ, ℤ, IfSome, IsTrue, List, [], ◌∷◌, ◌++◌, length, take, Option, Ok, Err, Some, option_map}
 use Rattle.std.specs.Io.KnownBytes.{Appends}
 use Rattle.csv.specs.Reading.{strip_bom}
+use Rattle.csv.specs.declared.parser.State.TheVariants.{StartRecord}
 use Rattle.sqlite_disk.specs.declared.Disk.{Ghosts}
 use Rattle.sqlite_store.specs.FileStore.{recovers, state as store_state, view}
 use Rattle.sqlite_store.specs.Unopened.{state_of as unopened_state}
@@ -15,20 +16,31 @@ use Rattle.sqlite.specs.Files.{HoldsDatabase, image_of}
 use Rattle.sqlite.specs.State.{State as FileState}
 use Rattle.sqlite.specs.declared.file.Leftover.{Leftover}
 use Rattle.sqlite.specs.declared.file.Leftover.TheVariants as leftover
-use Rattle.office_base.specs.Output.{AppendsSome}
 use Rattle.office_rules.specs.Acts.{after as after_acts, answers}
 use Rattle.office_rules.specs.Runs.{after_steps, open_run, whole}
 use Rattle.office_rules.specs.State.{State}
 use Rattle.office_rules.specs.declared.act.Act.{Act}
 use Rattle.office_rules.specs.declared.answer.Answer.{Answer}
+use Rattle.office_store.specs.declared.fault.Fault.{Fault}
 use Rattle.office_desk.specs.Headline.{AreWellFormed}
+use Rattle.office_desk.specs.Outcomes.{ActsOutcome, CanComeTo, all_done, answered_acts, answers_of, stopped}
+use Rattle.office_desk.specs.Resumptions.{IsRunOf, RunOutcome, none_open, run_closed, run_stopped}
 use Rattle.office_life.specs.Tables.{ContainTables, IsOfficeAt}
 use Rattle.office_command_line.specs.Orders as command
 use Rattle.office_command_line.specs.Orders.{Command}
+use Rattle.office_command_line.specs.declared.register.Register.TheVariants as register
 use Rattle.office_json.specs.Answers.{answer_lines}
-use Rattle.office_json.specs.Lists.{acts_in}
+use Rattle.office_json.specs.Lists.{NoActs, acts_in}
 use Rattle.office_csv.specs.ImportRows.{Fields}
+use Rattle.office_csv.specs.ImportText.{LacksHeader}
 use Rattle.office_wire.specs.Importing.{AreAllRows, AreLinesOut, ArePrefixRows, AreRowsDone, AreSomeRows, IsRowDone, lines_from}
+use Rattle.office_commands.specs.Applying.{exit_of_none}
+use Rattle.office_commands.specs.Calling.{Reports}
+use Rattle.office_commands.specs.Certifying.{Certifies}
+use Rattle.office_commands.specs.ExitStatuses.{exit_of_acts}
+use Rattle.office_commands.specs.Exporting.{Exports}
+use Rattle.office_commands.specs.Making.{version_line}
+use Rattle.office_commands.specs.Resuming.{IsRunReported}
 use Rattle.office_commands.specs.declared.exit.Exit.{Exit}
 use Rattle.office_commands.specs.declared.exit.Exit.TheVariants as how
 use Rattle.office_commands.specs.declared.office_files.FilesLeft.{FilesLeft}
@@ -60,23 +72,37 @@ SaysAll exit = (exit ≡ how.Done) ⊎ (exit ≡ how.SomeRefused)
 abbrev pub IsUntouched : Option (List ℕ) → Option (List ℕ) → State → State → Type 0
 IsUntouched written after s u = (u ≡ s) × (after ≡ written)
 
--- these lines were written; or writing failed, and their first bytes went out, or none
-abbrev pub AreWritten : List ℕ → Option (List ℕ) → Option (List ℕ) → Exit → Type 0
-AreWritten lines written after exit =
-    Appends written after lines ⊎ (exit ≡ how.File) × AppendsSome written after lines
+-- a fault is reported, as when the office was not opened: nothing was done, and nothing was written
+pub record IsFaultAlone (written after : Option (List ℕ)) (exit : Exit) (s u : State) : Type 0 where
+  pub fault : Fault
+  pub reported : exit ≡ how.Fault fault
+  pub untouched : IsUntouched written after s u
 
--- acts of the text were done: those whose answers were written, and at most one more; where writing failed, the answers
--- of them are those of which the first bytes went out
+-- why no act of a text was done: a fault; the text could not be read to its end; or it is no list of acts
+abbrev pub IsNotApplied : List ℕ → Exit → Type 0
+IsNotApplied text exit =
+    ((f : Fault) × (exit ≡ how.Fault f)) ⊎ ((exit ≡ how.File)
+    ⊎ ((why : NoActs) × (acts_in text ≡ Err why) × (exit ≡ exit_of_none why)))
+
+-- the state after acts that came to an outcome: after all; or after those that were answered, or one more
+abbrev pub IsAfterActs : State → List Act → ActsOutcome → State → Type 0
+IsAfterActs s acts (all_done told) u = u ≡ after_acts s acts
+IsAfterActs s acts (stopped told f) u =
+    (u ≡ after_acts s (take (length told) acts)) ⊎ (u ≡ after_acts s (take (length told + 1) acts))
+
+-- acts of the text were done: all of them, or those before a fault and at most one more. Their answers were written, and
+-- the exit is that of the outcome; where writing failed, the first bytes of the answers went out, or none
 pub record AreActsDone (text : List ℕ) (written after : Option (List ℕ)) (exit : Exit) (s u : State) : Type 0 where
   pub acts : List Act
   pub read : acts_in text ≡ Ok acts
-  pub count : ℕ
-  pub within : count ≤ length acts
-  pub answered : AreWritten (answer_lines (answers s (take count acts))) written after exit
-  pub state : (u ≡ after_acts s (take count acts)) ⊎ (u ≡ after_acts s (take (count + 1) acts))
   pub formed : AreWellFormed acts
+  pub outcome : ActsOutcome
+  pub fits : CanComeTo acts outcome
+  pub answered : answers_of outcome ≡ answers s (answered_acts acts outcome)
+  pub reported : Reports (answer_lines (answers_of outcome)) (exit_of_acts outcome) written after exit
+  pub state : IsAfterActs s acts outcome u
   -- all of them, if the exit says so
-  pub all : SaysAll exit → count ≡ length acts
+  pub all : SaysAll exit → u ≡ after_acts s acts
 
 -- rows of the text were added, in their order: those whose lines were written, and at most one more; where writing
 -- failed, all of them have their lines, but for a part of the last one's
@@ -93,28 +119,56 @@ pub record AreRowsAdded (day : ℤ) (text : Option (List ℕ)) (written after : 
   -- all of them, if the exit says so
   pub all : SaysAll exit → AreAllRows text rows × (u ≡ reached)
 
--- steps of the open run were taken; where the command is done, to the end of the run
-pub record AreStepsTaken (exit : Exit) (s u : State) : Type 0 where
+-- why no row of a text was added: a fault; or the text lacks the row that names the columns
+abbrev pub IsNotImported : Option (List ℕ) → Exit → Type 0
+IsNotImported text exit = ((f : Fault) × (exit ≡ how.Fault f)) ⊎ (exit ≡ how.CsvHeader) × LacksHeader StartRecord text
+
+-- the state that a resumption leaves: the whole of the run that it closed; the same, if none was open
+abbrev pub IsAfterRun : State → RunOutcome → State → Type 0
+IsAfterRun s (run_closed run) u = u ≡ whole s run
+IsAfterRun s none_open u = u ≡ s
+IsAfterRun s (run_stopped f) u = Unit {0}
+
+-- steps of the open run were taken, and what that came to is reported
+pub record IsRunResumed (written after : Option (List ℕ)) (exit : Exit) (s u : State) : Type 0 where
+  pub outcome : RunOutcome
+  pub fits : IsRunOf s outcome
+  pub reported : IsRunReported outcome written after exit
   pub count : ℕ
-  pub state : u ≡ after_steps s count
+  pub steps : u ≡ after_steps s count
+  pub state : IsAfterRun s outcome u
+  -- to the end of the run, if the exit says so
   pub closed : exit ≡ how.Done → (run : ℕ) × (open_run s.office ≡ Some run) × (u ≡ whole s run)
+
+-- the office was opened, and its version reported
+abbrev pub IsVersionReported : Option (List ℕ) → Option (List ℕ) → Exit → Type 0
+IsVersionReported written after exit = Reports version_line how.Done written after exit
+
+-- what a command reads of the office at a state is reported, and that state is left; or a fault, and nothing was written
+abbrev pub ReadsAt : Type 0 → Option (List ℕ) → Option (List ℕ) → Exit → State → State → Type 0
+ReadsAt Is written after exit s u = IsFaultAlone written after exit s u ⊎ Is × (u ≡ s)
 
 -- at which state an order leaves an office that was at one, by what it read and wrote and how it ended
 abbrev pub IsLeftBy : Command → List ℕ → Option (List ℕ) → Option (List ℕ) → Exit → State → State → Type 0
 IsLeftBy (command.apply file acts) text written after exit s u =
-    IsUntouched written after s u × (SaysAll exit → ⊥) ⊎ AreActsDone text written after exit s u
+    IsUntouched written after s u × IsNotApplied text exit ⊎ AreActsDone text written after exit s u
 IsLeftBy (command.import file day csv) text written after exit s u =
-    IsUntouched written after s u × (SaysAll exit → ⊥)
+    IsUntouched written after s u × IsNotImported (option_map strip_bom (Some text)) exit
     ⊎ AreRowsAdded day (option_map strip_bom (Some text)) written after exit s u
-IsLeftBy (command.resume file) text written after exit s u = AreStepsTaken exit s u
-IsLeftBy (command.init file) text written after exit s u = u ≡ s
-IsLeftBy (command.export file register) text written after exit s u = u ≡ s
-IsLeftBy (command.overdue file day n) text written after exit s u = u ≡ s
-IsLeftBy (command.certificate file run) text written after exit s u = u ≡ s
-IsLeftBy (command.serve file port count) text written after exit s u = u ≡ s
-IsLeftBy (command.plan file) text written after exit s u = u ≡ s
-IsLeftBy (command.due unit count offset day) text written after exit s u = u ≡ s
-IsLeftBy command.nothing text written after exit s u = u ≡ s
+IsLeftBy (command.resume file) text written after exit s u =
+    IsFaultAlone written after exit s u ⊎ IsRunResumed written after exit s u
+IsLeftBy (command.init file) text written after exit s u =
+    ReadsAt (IsVersionReported written after exit) written after exit s u
+IsLeftBy (command.export file register) text written after exit s u =
+    ReadsAt (Exports (λ Is. Is s) register written after exit) written after exit s u
+IsLeftBy (command.overdue file day n) text written after exit s u =
+    ReadsAt (Exports (λ Is. Is s) (register.Overdue day n) written after exit) written after exit s u
+IsLeftBy (command.certificate file run) text written after exit s u =
+    ReadsAt (Certifies (λ Is. Is s) run written after exit) written after exit s u
+IsLeftBy (command.serve file port count) text written after exit s u = IsUntouched written after s u
+IsLeftBy (command.plan file) text written after exit s u = IsUntouched written after s u
+IsLeftBy (command.due unit count offset day) text written after exit s u = IsUntouched written after s u
+IsLeftBy command.nothing text written after exit s u = IsUntouched written after s u
 
 -- a service leaves an office after some acts
 abbrev pub IsServedTo : State → State → Type 0
@@ -141,6 +195,6 @@ LeavesFilesAt {g = g} old s Is (files.Closed it) =
     AreClean g it.log it.db
     → (u : State) × Is u × ContainWholeOffice (image_of g it) u
     × ((image : Image) → outcomes g it.log it.db image → ContainWholeOffice image u)
-LeavesFilesAt old s Is (files.Unclosed store) =
+LeavesFilesAt old s Is (files.Unclosed store why) =
     IsClean (view store) → IsTrue (view store).is_open ⊎ IsTrue (view store).is_numbered
     → (image : Image) → (store_state store).may_leave image → ∥ ((u : State) × Is u × ContainWholeOffice image u) ∥₁

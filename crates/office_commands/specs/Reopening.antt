@@ -16,6 +16,7 @@ use Rattle.office_rules.specs.State.{State}
 use Rattle.office_command_line.specs.Orders.{Command}
 use Rattle.office_commands.specs.Files.{ContainedOffice, IsLeftOf, LeavesAnOffice, RunsInFiles, ServesInFiles}
 use Rattle.office_commands.specs.NextCommand.{ContainOffice, ContainWholeOffice, IsLeftBy, IsServedTo, LeavesFilesAt}
+use Rattle.office_commands.specs.OpenResult.{OpenResult}
 use Rattle.office_commands.specs.declared.exit.Exit.{Exit}
 use Rattle.office_commands.specs.declared.office_files.FilesLeft.{FilesLeft}
 use Rattle.office_commands.specs.declared.office_files.FilesLeft.TheVariants as files
@@ -43,16 +44,16 @@ CrashContainsOffice last =
 abbrev pub CommandLeavesOffice : {D : Type 0} → Ghosts D → Type 0
 CommandLeavesOffice {D} g =
     (image : Image) (s : State) (order : Command) (text : List ℕ) (written after : Option (List ℕ)) (exit : Exit)
-    (left : FilesLeft D g)
-    → ContainOffice image s → RunsInFiles left image order (Some text) written after exit
+    (opened : OpenResult g) (left : FilesLeft D g)
+    → ContainOffice image s → RunsInFiles left image opened order (Some text) written after exit
     → LeavesFilesAt image s (IsLeftBy order text written after exit s) left
 
 -- the same of a service, which leaves the office after some acts
 abbrev pub ServiceLeavesOffice : {D : Type 0} → Ghosts D → Type 0
 ServiceLeavesOffice {D} g =
     (image : Image) (s : State) (port count : ℕ) (written after : Option (List ℕ)) (exit : Exit)
-    (left : FilesLeft D g)
-    → ContainOffice image s → ServesInFiles left image port count written after exit
+    (opened : OpenResult g) (left : FilesLeft D g)
+    → ContainOffice image s → ServesInFiles left image opened port count written after exit
     → LeavesFilesAt image s (IsServedTo s) left
 
 -- an office of which each page has its sum, if the file has sums, is one

@@ -3,6 +3,7 @@ use Rattle.std.specs.Prelude.{◌≡◌, ◌⊎◌, ◌≤◌, ℕ, Bool, false,
 use Rattle.std.specs.Io.KnownBytes.{Appends}
 use Rattle.sqlite_trees.specs.declared.store.Store.{Ghosts}
 use Rattle.sqlite.specs.Held.{Held, state}
+use Rattle.office_base.specs.Output.{AppendsSome}
 use Rattle.office_desk.specs.Desk.{DeskState}
 use Rattle.office_desk.specs.Leaving.{IsAt}
 use Rattle.office_wire.specs.Connections.{Turns}
@@ -17,12 +18,13 @@ pub record IsDeskOf {S : Type 0} (g : Ghosts S) (conn : Held S) (desk : DeskStat
   pub is_open : desk.is_poisoned ≡ false
   pub opened : FromOpened (state g conn) (state g desk.connection) (λ t. IsAt g t desk)
 
--- a desk was served, by the exit: where it listens was not reported, and nothing is served; or connections were, one
--- after another, as many as were asked for or fewer where the desk was poisoned
+-- a desk was served, by the exit: the first bytes of the line that reports where it listens went out, or none, and
+-- nothing is served; or connections were, one after another, as many as were asked for or fewer where the desk was
+-- poisoned
 abbrev pub ServesAt : {S : Type 0} → Ghosts S → ℕ → ℕ → DeskState S → DeskState S → Option (List ℕ) → Option (List ℕ)
     → Exit → Type 0
 ServesAt g port count old new written after exit =
-    ((exit ≡ how.File) × (new ≡ old))
+    ((exit ≡ how.File) × (new ≡ old) × AppendsSome written after (listening_line port))
     ⊎ ((n : ℕ) × (failed ended : Bool) × Appends written after (listening_line port) × Turns g n failed ended old new
     × (n ≤ count) × (ended ≡ false → n ≡ count) × (exit ≡ exit_of_service failed ended))
 

@@ -1,8 +1,9 @@
 //! The commands that run on the office in a file, over a connection to it.
-ghost use Rattle.std.specs.Prelude.{◌≡◌, false, OnOk};
+ghost use Rattle.std.specs.Prelude.{◌≡◌, false, OnErr, OnOk};
 ghost use Rattle.std.specs.Io.KnownBytes.{Appends};
 ghost use Rattle.sqlite.specs.Held.{state};
 ghost use Rattle.sqlite.specs.State.{HasCleanDisk};
+ghost use Rattle.office_base.specs.Output.{AppendsSome};
 ghost use Rattle.office_command_line.specs.Orders.{command};
 ghost use Rattle.office_commands.specs.Calling.{Exits};
 ghost use Rattle.office_commands.specs.Running.{RunEnds, listening_line};
@@ -15,19 +16,31 @@ use crate::export::export_on;
 use crate::init::init_on;
 use crate::record_import::import_on;
 use crate::resume::resume_on;
-use office_base::Io;
+use itoa::Buffer;
+use office_base::{Io, put_parts};
 use office_command_line::{Order, Register};
 use sqlite::{Alter, Connection};
 use std::alloc::Global;
 use std::io::{Read, Write};
 
-/// Reports the port of this machine at which a service listens, and sends the line out. `Io` comes
-/// where the writer answered an error, and some of the line may have gone out then.
+/// Reports the port of this machine at which a service listens, and sends the line out. `Io` means
+/// that the writer returned an error, and then the first bytes of the line went out, or none.
+#[tactic(auto, using(office_base::proofs::Written::kept_some))]
 pub fn report_listening<W: Write>(port: u16, out: &mut W) -> Result<(), Io>
-    ensures { OnOk result
+    ensures ok { OnOk result
         (Appends (W.contents out.old) (W.contents out.new) (listening_line port)) }
+    ensures err { OnErr result
+        (AppendsSome (W.contents out.old) (W.contents out.new) (listening_line port)) }
 {
-    writeln!(out, "listening 127.0.0.1:{port}").or(Err(Io))?;
+    let mut digits = Buffer::new();
+    put_parts(
+        &[
+            b"listening 127.0.0.1:",
+            digits.format(port).as_bytes(),
+            b"\n",
+        ],
+        out,
+    )?;
     out.flush().or(Err(Io))
 }
 

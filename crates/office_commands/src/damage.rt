@@ -5,14 +5,12 @@ ghost use Rattle.office_commands.specs.Damage.{CommandFindsDamage, IsCleanOrColl
 use crate::office_files::FilesLeft;
 use sqlite_disk::{Calls, Modelled, Start};
 
-/// Over files whose calls are recorded ([`sqlite::FileFrom`] has them so): a command or a service
-/// that opened the two files, and took no wrong answer of the disk as true until they were open,
-/// took none to its end, so that each of its promises holds; or a digest of 64 bits collided, under
-/// a key that is drawn as the files are opened. For each later read is tested against a digest. One
-/// that fails its test is a failed call, which is fault 31 where it is not made good.
-///
-/// Which connection was opened no clause says: it is the one that [`crate::open_and_run`],
-/// [`crate::open_and_apply`] and [`crate::open_and_serve`] have from the database, by their bodies.
+/// Over files whose calls are recorded ([`sqlite::FileFrom`] has them so): if the database took no
+/// wrong answer of the disk as true until it had opened the two files, a command or a service over
+/// its connection took none to its end, so that each of its promises holds; or a digest of 64 bits
+/// collided, under a key that is drawn as the files are opened. For each later read is tested
+/// against a digest. One that fails its test is a failed call, which is fault 31 if it is not made
+/// good.
 ///
 /// It says nothing of damage before the opening or between two runs, of which the opening finds
 /// what makes the pages unsound, and nothing of bytes that no call reads again.
@@ -21,7 +19,7 @@ pub fn law_of_found_damage<C: Calls + Drop, S: Start>(left: &FilesLeft<Modelled<
     ensures left { IsCleanOrCollided (start_of S.Start) (λ it. C.Calls.history (calls_of it))
         left.now }
 
-    // So it is of a command that opened them, from then on; and each of its promises holds.
+    // A command over the connection that opened them took none either, and keeps its promises.
     ensures command { CommandFindsDamage (start_of S.Start) (λ it. C.Calls.history (calls_of it))
         left.now }
 

@@ -12,7 +12,7 @@ use sqlite_disk::Disk;
 
 /// Where the last commit of a connection is an office's, the files that its closing left hold that
 /// office, as they read now and after any crash. So the next opening of the files finds what is
-/// said here: it is [`crate::open_and_run`]'s `IsOpenedFrom`, `rest`.
+/// said here: it is [`crate::run_opened`]'s `IsOpenedFrom`, `rest`.
 pub fn law_of_the_next_command<D: Disk + Drop>()
     ensures closed { ClosedFilesKeepOffice D.Disk }
 {}
@@ -29,14 +29,14 @@ pub fn law_of_a_killed_command<D: Disk + Drop>(conn: Connection<FileStore<D>>) -
 }
 
 /// The headline from one command of the program to the next. Files that hold an office at a state,
-/// and over which a command was run ([`crate::open_and_run`] promises `RunsInFiles`), hold an office
+/// and over which a command was run ([`crate::run_opened`] promises `RunsInFiles`), hold an office
 /// again, at the state at which the command leaves it (`IsLeftBy`): of `apply`, after the acts whose
 /// answers were written and at most one more; of `import`, after the rows whose lines were written
 /// and at most one more; where either ended by `File`, as when standard output could not be
 /// written, the answers or lines of what was done are those of which the first bytes went out; of
 /// `resume`, after some steps of the run, and where it says `certificate` after all; of each other
 /// command, at the same state. A service
-/// ([`crate::open_and_serve`] promises `ServesInFiles`) leaves it after some acts (`IsServedTo`).
+/// ([`crate::serve_opened`] promises `ServesInFiles`) leaves it after some acts (`IsServedTo`).
 /// It is so where the command ended and the files were closed, as they read now and after any crash,
 /// and where they could not be closed, after any crash; of a store that the failed closing shut it
 /// is so only if that is numbered, which the database does not say. Files that were not opened hold

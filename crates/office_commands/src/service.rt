@@ -1,14 +1,17 @@
 //! The office in a file, served over TCP.
-ghost use Rattle.std.specs.Prelude.{◌≡◌, false};
+ghost use Rattle.std.specs.Prelude.{◌≡◌, IfErr, false};
+ghost use Rattle.sqlite_std_file.specs.File.{IsFresh};
 ghost use Rattle.sqlite_wal.specs.Files.{image_at};
 ghost use Rattle.sqlite.specs.Held.{state};
 ghost use Rattle.sqlite.specs.State.{HasCleanDisk};
 ghost use Rattle.office_commands.specs.Files.{ServesInFiles};
+ghost use Rattle.office_commands.specs.OpenResult.{IsOpenResult};
 ghost use Rattle.office_commands.specs.Serving.{ServesAt, ServiceEnds};
+ghost use Rattle.office_commands.specs.declared.office_files.FilesLeft.TheVariants as files;
 
 use crate::command::report_listening;
 use crate::exit::Exit;
-use crate::office_files::{FilesLeft, close, law_of_the_last_commit};
+use crate::office_files::{FilesLeft, Opened, close, law_of_the_last_commit, refuse};
 use office_desk::Desk;
 use office_store::Fault;
 use office_wire::{Routes, serve_each};
@@ -66,33 +69,38 @@ where
     }
 }
 
-/// Opens the office's file, which is made where there is none, reports on `out` where it is served,
-/// serves so many connections of a listener, and closes the file. It gives how that ends, which is
-/// not reported yet, and what is left of the file, as [`crate::open_and_run`] does. The listener is
-/// bound to that port of this machine.
-pub fn open_and_serve<L: OpenListener, S: Start, W: Write, E: Write>(
+/// Serves the office in a file over the connection with which the database opened the file: reports
+/// on `out` where it is served, serves so many connections of a listener, and closes the file, as
+/// [`crate::run_opened`] does. It gives how that ends, which is not reported yet, and what is left
+/// of the file. The listener is bound to that port of this machine.
+pub fn serve_opened<L: OpenListener, S: Start, W: Write, E: Write>(
     rt: &HostRuntime,
     routes: &Routes,
     listener: &L,
     port: u16,
     count: u32,
-    file: &str,
-    start: S,
+    opened: Opened<S>,
     out: &mut W,
     err: &mut E,
 ) -> (Exit, FilesLeft<FileFrom<S>>)
 where
     L::Stream: Read + Write + OpenStream,
-    ensures { ServesInFiles result.1 (image_at S.Start) port count (W.contents out.old)
-        (W.contents out.new) result.0 }
+    requires { IsOpenResult IsFresh (image_at S.Start) opened }
+    // A refused file is left as the database gave it back: fault 31, with nothing written.
+    ensures refused { IfErr opened (λ e. (result.0 ≡ Exit.Fault Fault.Store)
+        × (result.1 ≡ files.Unopened e.1) × (W.contents out.new ≡ W.contents out.old)) }
+
+    // Over the connection the office is served, and it is closed.
+    ensures serves { ServesInFiles result.1 (image_at S.Start) opened port count
+        (W.contents out.old) (W.contents out.new) result.0 }
 {
-    match Connection::open_from(rt, file, false, start) {
+    match opened {
         Ok(conn) => {
             law_of_the_last_commit(&conn);
             let (exit, conn) = serve_on(rt, routes, listener, port, count, conn, out, err);
             law_of_the_last_commit(&conn);
             (exit, close(conn))
         }
-        Err((_, left)) => (Exit::Fault(Fault::Store), FilesLeft::Unopened(left)),
+        Err(refused) => (Exit::Fault(Fault::Store), refuse(refused)),
     }
 }

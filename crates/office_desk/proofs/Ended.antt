@@ -14,7 +14,7 @@ use Rattle.office_desk.specs.Calling.{AreStepsDone, AreStepsStopped, EndAct, End
 use Rattle.office_desk.specs.Desk.{DeskState}
 use Rattle.office_desk.specs.Headline.{AreWellFormed}
 use Rattle.office_desk.specs.Leaving.{IsAt, StopsAt}
-use Rattle.office_desk.specs.Outcomes.{ActsCameTo, IsActAnswered, act_outcome}
+use Rattle.office_desk.specs.Outcomes.{ActsCameTo, IsActAnswered, StopsChange, act_outcome}
 use Rattle.office_desk.specs.Resumptions.{IsResumed, RunCameTo, run_outcome}
 use Rattle.office_desk.proofs.LeftFates.{AreFatesReported, fates_after, fates_at, fates_done, none_left, one_left}
 use Rattle.office_desk.proofs.LeftOffices.{offices_representing, offices_stopped}
@@ -66,13 +66,14 @@ module _ (reported : AreFatesReported) {S : Type 0} (g : Ghosts S) (s : State) (
       }
 
 -- what is so of one act is so of the list of it alone
-pub one_answered : {S : Type 0} (g : Ghosts S) (s : State) (a : Act) (Pre : Type 0) (result : Result Answer Fault) (old new : DeskState S) → IsWellFormedAct a → s.office ≡ old.office → EndAct g s a result old new Pre → IsActAnswered s a result old new
-one_answered g s a Pre (Ok answer) old new formed same it = record { formed = formed; answered = it.answered; leads = (it.office, it.is_open); memory = λ is. absurd cc }
-one_answered g s a Pre (Err f) old new formed same it = record {
+pub one_answered : {S : Type 0} (g : Ghosts S) (s : State) (a : Act) (Pre : Type 0) (result : Result Answer Fault) (old new : DeskState S) → IsWellFormedAct a → s.office ≡ old.office → StopsChange s a result → EndAct g s a result old new Pre → IsActAnswered s a result old new
+one_answered g s a Pre (Ok answer) old new formed same stops it = record { formed = formed; answered = it.answered; leads = (it.office, it.is_open); memory = λ is. absurd cc; stops = stops }
+one_answered g s a Pre (Err f) old new formed same stops it = record {
   formed = formed;
   answered = tt;
   leads = subst (λ (o : Office). StopsAt o f new) (sym same) it.stops;
   memory = λ is. it.memory (let why : f ≡ fault.Memory = cc in why);
+  stops = stops;
 }
 
 module _ (reported : AreFatesReported) (on : GoesOn) {S : Type 0} (g : Ghosts S) (s : State) (a : Act) (Pre : Type 0) where
@@ -153,7 +154,7 @@ module _ (on : GoesOn) (closes : Closes) {S : Type 0} (g : Ghosts S) (s : State)
         let left = it.left here in
         record {
           fits = tt;
-          leads = (it.count, it.stops, left);
+          leads = (it.count, it.one_more, it.stops, left);
           whole = λ still. absurd (still f refl);
           midway = λ begun run is m. midway_resumed g r begun s run new on is m tt (it.count, left);
           none = λ none. none_resumed g r s new none tt (it.count, left);

@@ -8,7 +8,7 @@ use Rattle.office_desk.specs.Resumptions.{RunCameTo, RunLeads, RunLeaves, RunLef
 leads_left : {S : Type 0} (g : Ghosts S) (s : State) (o : RunOutcome) (d : DeskState S) → RunLeads g s o d → RunLeaves s o (state g d.connection)
 leads_left g s (run_closed run) d at = at.rows
 leads_left g s none_open d at = at.rows
-leads_left g s (run_stopped f) d stop = (stop.0, stop.2)
+leads_left g s (run_stopped f) d stop = (stop.0, stop.1, stop.3)
 
 pub run_left : {S : Type 0} (g : Ghosts S) (s : State) (o : RunOutcome) (d : DeskState S) → RunCameTo g s o d → RunLeft o (state g d.connection) s
 run_left g s o d it = record {

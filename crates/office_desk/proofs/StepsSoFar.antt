@@ -5,19 +5,21 @@ use Rattle.sqlite.specs.Held.{state}
 use Rattle.sqlite.specs.State.{HasCleanDisk}
 use Rattle.sqlite_trees.specs.declared.store.Store.{Ghosts}
 use Rattle.office_rules.specs.declared.outcome.Outcome.{Outcome}
-use Rattle.office_rules.specs.Acts.{step}
+use Rattle.office_rules.specs.Acts.{is_of_change, step}
 use Rattle.office_rules.specs.Runs.{after_steps, open_run}
 use Rattle.office_rules.specs.State.{State, Office, with_contents}
+use Rattle.office_rules.specs.Steps.{answer_in}
 use Rattle.office_rules.specs.declared.act.Act.TheVariants as act
 use Rattle.office_rules.specs.declared.answer.Answer.{Answer}
 use Rattle.office_rules.specs.declared.answer.Answer.TheVariants.{Step}
 use Rattle.office_store.specs.declared.fault.Fault.{Fault}
+use Rattle.office_store.specs.declared.fault.Fault.TheVariants as fault
 use Rattle.office_desk.specs.Calling.{AreStepsDone, AreStepsStopped, Called, IsDone, IsFaulted, LeavesRestOf}
 use Rattle.office_desk.specs.Desk.{DeskState}
 use Rattle.office_desk.specs.Leaving.{IsAt, StopsAt, StopsLeaving}
 use Rattle.office_desk.specs.Resuming.{resumed_answer}
 use Rattle.office_desk.proofs.LeftRest.{rest_then}
-use Rattle.office_desk.proofs.RunSteps.{IsLast, IsTaken, after_more, last_in, taken_in}
+use Rattle.office_desk.proofs.RunSteps.{IsLast, IsTaken, after_more, answer_run, last_in, taken_in}
 
 -- so many steps were taken
 pub record AreTaken {S : Type 0} (g : Ghosts S) (s : State) (new : DeskState S) (Pre : Type 0) : Type 0 where
@@ -85,9 +87,14 @@ module _ {S : Type 0} (g : Ghosts S) (mid new : DeskState S) (answer : Answer) (
         rest = all.rest;
       }
 
+-- where no run is open, a step changes nothing
+none_changed : (s : State) → open_run s.office ≡ None → is_of_change (step s act.RunStep).0 ≡ false
+none_changed s none = ap is_of_change (answer_run s ∙ ap (answer_in s.office) none)
+
 pub steps_stopped : {S : Type 0} (g : Ghosts S) (old mid new : DeskState S) (f : Fault) → mid.is_poisoned ≡ false → CalledSteps g old mid → (open_run old.office ≡ None → mid ≡ old)
+    → open_run mid.office ≡ open_run old.office → ((s : State) → s.office ≡ mid.office → is_of_change (step s act.RunStep).0 ≡ false → f ≡ fault.Memory)
     → Called g mid new (λ s Pre. IsFaulted g s (step s act.RunStep).1 f mid new Pre) → Called g old new (λ s Pre. AreStepsStopped g s f old new Pre)
-steps_stopped g old mid new f still so_far first one = record {
+steps_stopped {S = S} g old mid new f still so_far first same_run stops one = record {
   clean = λ clean. so_far.clean (one.clean clean);
   shield = λ shielded. one.shield (so_far.shield shielded);
   did = λ s is_open same.
@@ -96,6 +103,12 @@ steps_stopped g old mid new f still so_far first one = record {
       record {
         memory = λ none is. it.memory is ∙ first none;
         count = so.count;
+        one_more = record {
+          still_open = ap open_run (sym so.office) ∙ same_run ∙ ap open_run (sym same);
+          no_run = λ none.
+              let unmoved = ap (λ (d : DeskState S). d.office) (first (ap open_run (sym same) ∙ none)) in
+              stops s (same ∙ sym unmoved) (none_changed s none);
+        };
         stops = subst (λ (o : Office). StopsAt o f new) so.office it.stops;
         left = λ at.
             subst (λ (t : State). StopsLeaving (after_steps s so.count) t f (state g new.connection)) (sym (after_more so.count s))

@@ -18,7 +18,7 @@ use Rattle.office_store.specs.declared.fault.Fault.TheVariants as fault
 use Rattle.office_desk.specs.Desk.{DeskState}
 use Rattle.office_desk.specs.Fates.{LeavesFates}
 use Rattle.office_desk.specs.Headline.{AreWellFormed}
-use Rattle.office_desk.specs.Leaving.{IsPrefixAnswered, IsAt, StopsAt, StopsLeaving}
+use Rattle.office_desk.specs.Leaving.{IsPrefixAnswered, IsAt, LeavesStep, StopsAt, StopsLeaving}
 use Rattle.office_desk.specs.Resuming.{AreRunSteps, LeavesMidway, resumed_answer}
 
 -- whatever a crash leaves has all that is not the office's as it was
@@ -128,6 +128,7 @@ pub record AreStepsStopped {S : Type 0} (g : Ghosts S) (s : State) (f : Fault) (
     Type 0 where
   pub memory : open_run old.office ≡ None → f ≡ fault.Memory → new ≡ old
   pub count : ℕ
+  pub one_more : LeavesStep s f count
   pub stops : StopsAt (after_steps s count).office f new
   pub left : Pre → StopsLeaving (after_steps s count) (after_steps s (suc count)) f (state g new.connection)
 

@@ -1,10 +1,10 @@
 -- What a call came to, as data, and what that means: for the answers, the desk, the file. Source: own.
-use Rattle.std.specs.Prelude.{◌≡◌, ◌+◌, ◌≤◌, ℕ, false, List, [], ◌∷◌, ◌++◌, drop, length, take, IfOk, Result, Ok, Err, Some}
+use Rattle.std.specs.Prelude.{◌≡◌, ◌+◌, ◌≤◌, ℕ, false, List, [], ◌∷◌, ◌++◌, drop, length, take, IfErr, IfOk, Result, Ok, Err, Some}
 use Rattle.sqlite.specs.Held.{state}
 use Rattle.sqlite.specs.State as sqlite
 use Rattle.sqlite.specs.State.{HasCleanDisk}
 use Rattle.sqlite_trees.specs.declared.store.Store.{Ghosts}
-use Rattle.office_rules.specs.Acts.{after, answers, step}
+use Rattle.office_rules.specs.Acts.{after, answers, is_of_change, step}
 use Rattle.office_rules.specs.Forms.{IsWellFormedAct}
 use Rattle.office_rules.specs.Rows.{rows_of}
 use Rattle.office_rules.specs.Runs.{IsMidway, open_run}
@@ -76,6 +76,10 @@ pub record AreAnswered {S : Type 0} (s : State) (acts : List Act) (o : ActsOutco
   pub added : found ≡ given ++ answers s (answered_acts acts o)
   pub leads : ActsLead s acts o new
 
+-- only lack of memory stops an act that changes nothing: a refusal, or a record that was added before
+abbrev pub StopsChange : State → Act → Result Answer Fault → Type 0
+StopsChange s a result = IfErr result (λ f. is_of_change (step s a).0 ≡ false → f ≡ fault.Memory)
+
 -- one act was answered from a state, and in memory the desk is where it leads; where memory ran out, nothing was done
 pub record IsActAnswered {S : Type 0} (s : State) (a : Act) (result : Result Answer Fault) (old new : DeskState S) :
     Type 0 where
@@ -83,6 +87,7 @@ pub record IsActAnswered {S : Type 0} (s : State) (a : Act) (result : Result Ans
   pub answered : IfOk result (λ answer. answer ≡ (step s a).0)
   pub leads : ActsLead s (a ∷ []) (act_outcome result) new
   pub memory : result ≡ Err fault.Memory → new ≡ old
+  pub stops : StopsChange s a result
 
 -- acts from a state came to this: what was answered, and what a crash leaves of tables and contents, where all are steps
 -- of a run the run midway

@@ -12,7 +12,7 @@ use Rattle.office_store.specs.declared.fault.Fault.{Fault}
 use Rattle.office_desk.specs.Calling.{AreStepsStopped, WasAt}
 use Rattle.office_desk.specs.Desk.{DeskState}
 use Rattle.office_desk.specs.Fates.{LeavesStepFates}
-use Rattle.office_desk.specs.Leaving.{IsAt, LeavesRowsOf, StopsAt, StopsLeaving}
+use Rattle.office_desk.specs.Leaving.{IsAt, LeavesRowsOf, LeavesStep, StopsAt, StopsLeaving}
 use Rattle.office_desk.specs.Resuming.{LeavesMidway, resumed_answer}
 
 -- this run was open and is closed; or none was open; or a fault stopped the steps
@@ -54,12 +54,13 @@ IsRunAnswered g s result old new =
 
 -- ---- at a desk over a clean disk
 
--- where the desk is: at the state of the run that never stopped, or where no run was open; or it stopped after some steps
+-- where the desk is: at the state of the run that never stopped, or where no run was open; or it stopped after some
+-- steps, and one is left
 abbrev pub RunLeads : {S : Type 0} → Ghosts S → State → RunOutcome → DeskState S → Type 0
 RunLeads g s (run_closed run) d = IsAt g (whole s run) d
 RunLeads g s none_open d = IsAt g s d
 RunLeads g s (run_stopped f) d =
-    (n : ℕ) × StopsAt (after_steps s n).office f d
+    (n : ℕ) × LeavesStep s f n × StopsAt (after_steps s n).office f d
     × StopsLeaving (after_steps s n) (after_steps s (suc n)) f (state g d.connection)
 
 -- the open run was resumed from a state and came to this
@@ -78,11 +79,12 @@ pub record RunCameTo {S : Type 0} (g : Ghosts S) (s : State) (o : RunOutcome) (d
 
 -- ---- in a file, once the desk is closed
 
--- a crash leaves the tables of these states
+-- a crash leaves the tables of these states; where the steps stopped, one is left
 abbrev pub RunLeaves : State → RunOutcome → sqlite.State → Type 0
 RunLeaves s (run_closed run) file = ContainsRows (rows_of (whole s run)) file
 RunLeaves s none_open file = ContainsRows (rows_of s) file
-RunLeaves s (run_stopped f) file = (n : ℕ) × StopsLeaving (after_steps s n) (after_steps s (suc n)) f file
+RunLeaves s (run_stopped f) file =
+    (n : ℕ) × LeavesStep s f n × StopsLeaving (after_steps s n) (after_steps s (suc n)) f file
 
 -- the same of the file
 pub record RunLeft (o : RunOutcome) (file : sqlite.State) (s : State) : Type 0 where

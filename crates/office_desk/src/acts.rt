@@ -6,7 +6,7 @@ ghost use Rattle.office_rules.specs.Forms.{IsWellFormedAct};
 ghost use Rattle.office_rules.specs.State.{State};
 ghost use Rattle.office_desk.specs.Headline.{AreWellFormed};
 ghost use Rattle.office_desk.specs.Calling.{Called, EndAct, EndActs, EndChange, IsPoisoned, IsMade};
-ghost use Rattle.office_desk.specs.Outcomes.{ActsCameTo, AreAnswered, FromEach, IsActAnswered, SparesTheRest, act_outcome, acts_outcome};
+ghost use Rattle.office_desk.specs.Outcomes.{ActsCameTo, AreAnswered, FromEach, IsActAnswered, SparesTheRest, StopsChange, act_outcome, acts_outcome};
 
 use crate::Desk;
 use crate::fates::law_of_fates;
@@ -30,6 +30,7 @@ impl<S: Alter> Desk<S> {
     pub(crate) fn perform_one(&mut self, act: &Act) -> Result<Answer, Fault>
         requires open { self.old.is_poisoned ≡ false }
         ensures formed { IsWellFormedAct act.now }
+        ensures stops { (s : State) → s.office ≡ self.old.office → StopsChange s act.now result }
         ensures called { Called S.Store self.old self.new
             (λ s Pre. EndAct S.Store s act.now result self.old self.new Pre) }
     {

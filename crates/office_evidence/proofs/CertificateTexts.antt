@@ -1,7 +1,7 @@
 -- The text of a certificate is UTF-8.
-use Rattle.std.proofs.Common.{◌≡◌, ℕ, zero, suc, ◌<◌, ◌/◌, ◌%◌, ◌==◌, ◌&&◌, if◌then◌else◌, Bool, true, false, nat_lt, List, [], ◌∷◌, ◌++◌, map, length, filter, Option, Some, None, IsUtf8, IsAscii, IfSome, All, codes, decimal, ℤ, refl, sym, subst, arith, chars, unwrap_or}
+use Rattle.std.proofs.Common.{◌≡◌, ℕ, zero, suc, ◌<◌, ◌/◌, ◌%◌, ◌==◌, if◌then◌else◌, Bool, true, false, nat_lt, List, [], ◌∷◌, ◌++◌, map, length, Option, Some, None, IsUtf8, IsAscii, IfSome, All, codes, decimal, ℤ, refl, sym, subst, arith, chars, unwrap_or}
 use Rattle.std.specs.Fmt.{digit_glyph, digits, digits_onto}
-use Rattle.std.specs.List.{flat_map, list_all}
+use Rattle.std.specs.List.{list_all}
 use Rattle.std.specs.Str.{is_utf8}
 use Rattle.std.proofs.lemmas.Bool.{and_parts}
 use Rattle.std.proofs.lemmas.Bool.Decides.{nat_tests}
@@ -15,7 +15,7 @@ use Rattle.office_days.specs.Calendar.{civil}
 use Rattle.office_records.specs.Codes.{is_code_byte}
 use Rattle.office_records.specs.Forms.{IsCode, IsText}
 use Rattle.office_records.specs.TextForms.{is_text_character}
-use Rattle.office_rules.specs.Certificates.{date_text, lines_text, sealed, tabbed}
+use Rattle.office_rules.specs.Certificates.{date_text, lines_text, tabbed}
 use Rattle.office_rules.specs.Outcomes.{is_ending, is_sending, is_skipping, outcome_word}
 use Rattle.office_rules.specs.declared.outcome.Outcome.{Outcome}
 use Rattle.office_rules.specs.declared.outcome.Outcome.TheVariants as outcome

@@ -1,5 +1,5 @@
 -- Where what is there came from: the act that opened a run, took a record, closed a run or added a record.
-use Rattle.std.proofs.Common.{◌≡◌, inl, inr, ℕ, suc, ◌<◌, ℤ, List, [], ◌∷◌, ◌++◌, length, Option, Some, refl, sym, ap, ◌∙◌, arith, unwrap_or}
+use Rattle.std.proofs.Common.{◌≡◌, inl, inr, ℕ, suc, ◌<◌, ℤ, List, [], ◌∷◌, ◌++◌, length, Option, Some, None, refl, sym, ap, ◌∙◌, arith, unwrap_or}
 use Rattle.std.specs.Prelude.{slice_get}
 use Rattle.std.proofs.lemmas.Bool.{cases_lt}
 use Rattle.std.proofs.lemmas.List.{length-append}
@@ -93,6 +93,7 @@ entry_comes run r e s a sound there = elim (kind_of s a) [
 -- the act was the step that closed the run, with this certificate
 pub record DidClose (run : ℕ) (text : List ℕ) (s : State) (a : Act) : Type 0 where
   pub open_is : open_run s.office ≡ Some run
+  pub none_next : next_ready s.office run ≡ None
   pub answered : (step s a).0 ≡ answer.RunClosed run
   pub is : text ≡ certificate_of s.office run
   pub written : get (step s a).1.office.certificates run ≡ Some text
@@ -112,6 +113,7 @@ certificate_comes run text s a sound there = elim (kind_of s a) [
       (ap (λ m. get m run) (sym (certificates_of_closed s q.run)) ∙ ap (λ (t : State). get t.office.certificates run) (sym q.is) ∙ there)) [
         | inl here ↦ inr (record {
           open_is = q.open_is ∙ ap (λ (n : ℕ). Some n) (sym here.0);
+          none_next = ap (next_ready s.office) here.0 ∙ q.none_next;
           answered = q.answered ∙ ap (λ n. answer.RunClosed n) (sym here.0);
           is = sym here.1 ∙ ap (certificate_of s.office) (sym here.0);
           written = there;

@@ -1,14 +1,15 @@
--- What stays over any acts: how many runs and records there are at least, a run's day and opener, its entries and its
--- certificate.
+-- What stays over any acts: how many runs and records there are at least, a record's ref, length and digest, a run's day
+-- and opener, its entries and its certificate.
 use Rattle.std.proofs.Common.{◌≡◌, ◌≢◌, inl, inr, ℕ, ◌<◌, ◌≤◌, ℤ, true, false, List, [], ◌∷◌, length, Option, Some, refl, sym, ap, subst, ◌∙◌, arith, unwrap_or}
 use Rattle.std.proofs.lemmas.List.{length-append}
 use Rattle.std.specs.FinMap.{get, insert}
 use Rattle.std.specs.Option.{option_map}
 use Rattle.office_records.specs.Lists.{numbered, edited}
+use Rattle.office_records.specs.declared.head.Record.{Record}
 use Rattle.office_records.proofs.Places.{length-edited}
 use Rattle.office_rules.specs.Acts.{after}
 use Rattle.office_rules.specs.Disposing.{entry_of, outcome_of}
-use Rattle.office_rules.specs.Effects.{new_head, new_run}
+use Rattle.office_rules.specs.Effects.{new_head, new_run, with_new_record}
 use Rattle.office_rules.specs.Runs.{closed, cursor_of, entries_with, open_run, with_outcomes}
 use Rattle.office_rules.specs.Sound.{IsSound}
 use Rattle.office_rules.specs.State.{State}
@@ -22,7 +23,7 @@ use Rattle.office_rules.proofs.SoundMaps.{edited_here, edited_elsewhere, entry_t
 use Rattle.office_rules.proofs.SoundRuns.{open_there}
 use Rattle.office_rules.proofs.SoundTaken.{taken}
 use Rattle.office_evidence.specs.History.{AreWellFormed}
-use Rattle.office_evidence.proofs.ActKinds.{kind_of}
+use Rattle.office_evidence.proofs.ActKinds.{IsAlike, KeepsHeads, kind_of, more_heads}
 use Rattle.office_evidence.proofs.ActKinds.Kind.{adds, closes, opens, quiet, takes}
 use Rattle.office_evidence.proofs.Places.{Lasts, before_end, lasts}
 
@@ -62,6 +63,42 @@ records_last n s a sound formed low = elim (kind_of s a) [
   | opens q ↦ let same = ap (λ (t : State). length t.office.tree.records) q.is in omega (arith, same, low)
   | takes q ↦ let same = ap (λ (t : State). length t.office.tree.records) q.is ∙ records_of_taken s q.run q.r in omega (arith, same, low)
   | closes q ↦ let same = ap (λ (t : State). length t.office.tree.records) q.is ∙ records_of_closed s q.run in omega (arith, same, low)
+]
+
+-- ---- a record's ref, length and digest
+
+pub record HasHead (r : ℕ) (head : Record) (s : State) : Type 0 where
+  pub it : Record
+  pub there : numbered s.office.tree.records r ≡ Some it
+  pub same : IsAlike head it
+
+heads_of_closed : (s : State) (run : ℕ) → (closed s run).office.tree.records ≡ s.office.tree.records
+unfolding closed
+heads_of_closed s run = refl
+
+heads_of_taken : (s : State) (run r : ℕ) → (with_outcomes s run (r ∷ [])).office.tree.records ≡ s.office.tree.records
+unfolding with_outcomes
+heads_of_taken s run r = refl
+
+has_head : (r : ℕ) (head : Record) (s t : State) → HasHead r head s → KeepsHeads s.office.tree.records t.office.tree.records → HasHead r head t
+has_head r head s t has keeps =
+    let now = keeps r has.it has.there in
+    record {
+      it = now.0;
+      there = now.1;
+      same = record { ref_text = now.2.ref_text ∙ has.same.ref_text; size = now.2.size ∙ has.same.size; digest = now.2.digest ∙ has.same.digest };
+    }
+
+same_records : (r : ℕ) (head : Record) (s t : State) → t.office.tree.records ≡ s.office.tree.records → HasHead r head s → HasHead r head t
+same_records r head s t same has = record { it = has.it; there = ap (λ heads. numbered heads r) same ∙ has.there; same = has.same }
+
+pub head_lasts : (r : ℕ) (head : Record) → Lasts (HasHead r head)
+head_lasts r head s a sound formed has = elim (kind_of s a) [
+  | quiet q ↦ has_head r head s _ has q.heads
+  | adds q ↦ subst (HasHead r head) (sym q.is) (has_head r head s (with_new_record s q.day q.new) has (more_heads s.office.tree.records (new_head q.day q.new)))
+  | opens q ↦ same_records r head s _ (ap (λ (t : State). t.office.tree.records) q.is) has
+  | takes q ↦ same_records r head s _ (ap (λ (t : State). t.office.tree.records) q.is ∙ heads_of_taken s q.run q.r) has
+  | closes q ↦ same_records r head s _ (ap (λ (t : State). t.office.tree.records) q.is ∙ heads_of_closed s q.run) has
 ]
 
 -- ---- entries

@@ -7,8 +7,12 @@ pub mod Adding
 pub mod Warrants
 pub mod Openings
 pub mod TrueLines
+pub mod Passing
+pub mod Completing
+pub mod SpentLines
 pub mod WellFormed
 pub mod Truths
+pub mod TrueEntries
 pub mod Joining
 pub mod ReadWords
 pub mod DueWords
@@ -17,3 +21,4 @@ pub mod Picking
 pub mod Kept
 pub mod Chains
 pub mod CertificateTexts
+pub mod KeptTexts

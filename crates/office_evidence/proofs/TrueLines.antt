@@ -27,12 +27,12 @@ use Rattle.office_rules.proofs.SoundMaps.{is_there, one_there}
 use Rattle.office_rules.proofs.SoundPlans.{class_there, numbered_there, plan_there}
 use Rattle.office_rules.proofs.SoundTaken.{taken}
 use Rattle.office_evidence.specs.History.{AreWellFormed, IsStepAt, before}
-use Rattle.office_evidence.specs.Truth.{IsTrueLine, IsWarranted, WasAdded}
+use Rattle.office_evidence.specs.Truth.{IsRecorded, IsTrueLine, IsWarranted, WasAdded}
 use Rattle.office_evidence.proofs.ActKinds.{kind_of}
 use Rattle.office_evidence.proofs.ActKinds.Kind.{adds, closes, opens, quiet, takes}
 use Rattle.office_evidence.proofs.Adding.{answers_get, stays_as_added, taken_get}
 use Rattle.office_evidence.proofs.Coming.{DidAdd, DidTake, record_comes, taken_by}
-use Rattle.office_evidence.proofs.Lasting.{HasEntry, HasRecords, HasRun, entry_lasts}
+use Rattle.office_evidence.proofs.Lasting.{HasEntry, HasHead, HasRecords, HasRun, entry_lasts, head_lasts}
 use Rattle.office_evidence.proofs.Places.{answered_at, came, done_at, lasts_from, next_at, sound_at}
 use Rattle.office_evidence.proofs.Viewed.{line_by}
 use Rattle.office_evidence.proofs.Warrants.{warranted}
@@ -109,6 +109,19 @@ module _ (s : State) (acts : List Act) (sound : IsSound s) (formed : AreWellForm
         }
   ]
 
+  -- ref, length and digest of a record stay as they are
+  recorded_at : (j k r : ℕ) → j ≤ k → (head : Record) → numbered (before s acts j).office.tree.records r ≡ Some head → (e : Entry) → e.record_no ≡ r
+      → IsRecorded (before s acts j).office.tree (line_by e (numbered (before s acts k).office.tree.records r))
+  recorded_at j k r high head there e number =
+      let now = lasts_from (HasHead r head) (head_lasts r head) s acts j k high sound formed (record { it = head; there = there; same = record { ref_text = refl; size = refl; digest = refl } }) in
+      record {
+        head = head;
+        there = ap (numbered (before s acts j).office.tree.records) number ∙ there;
+        ref_text = sym (ap (λ (o : Option Record). unwrap_or (option_map (λ head. head.ref_text) o) []) now.there ∙ now.same.ref_text);
+        size = sym (ap (λ (o : Option Record). unwrap_or (option_map (λ head. head.length) o) 0) now.there ∙ now.same.size);
+        digest = sym (ap (λ (o : Option Record). unwrap_or (option_map (λ head. head.digest) o) []) now.there ∙ now.same.digest);
+      }
+
   -- a line is true of the step that wrote its entry
   pub line_is_true : (run r j k : ℕ) (e : Entry) (a : Act) (day : ℤ) (by : List ℕ) → j ≤ k → slice_get acts j ≡ Some a → DidTake run r e (before s acts j) a → HasRun run day by (before s acts j)
       → IsTrueLine s acts day j (line_by e (numbered (before s acts k).office.tree.records e.record_no))
@@ -141,6 +154,7 @@ module _ (s : State) (acts : List Act) (sound : IsSound s) (formed : AreWellForm
           was = (now.contents r).1 (it.1, t.status, t.not_ended);
           gone = λ n low. gone_since run r j n e a at did (subst (λ (x : Entry). IsTrue (is_ending x.outcome)) same ending) low;
         };
+        recorded = recorded_at j k r high head t.there new refl;
         added = λ later. added_before j k r high later (numbered_within v.office.tree.records r head t.there).1 new refl;
       } in
       subst (λ (x : Entry). IsTrueLine s acts day j (line_by x (numbered (before s acts k).office.tree.records x.record_no))) same canonical

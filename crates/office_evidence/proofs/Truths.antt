@@ -1,5 +1,5 @@
 -- The certificate of a run is true of the acts.
-use Rattle.std.proofs.Common.{◌≡◌, inl, inr, ℕ, suc, ◌+◌, ◌<◌, ◌≤◌, ℤ, List, [], ◌∷◌, length, map, Option, Some, refl, sym, ap, subst, ◌∙◌, arith, unwrap_or, option_map, pos}
+use Rattle.std.proofs.Common.{◌≡◌, inl, inr, ℕ, suc, ◌+◌, ◌<◌, ◌≤◌, ℤ, List, [], ◌∷◌, length, map, Option, Some, false, refl, sym, ap, subst, ◌∙◌, arith, unwrap_or, option_map, pos}
 use Rattle.std.specs.Prelude.{IsTrue, slice_get}
 use Rattle.std.proofs.lemmas.Bool.{cases_lt}
 use Rattle.std.specs.FinMap.{get}
@@ -8,10 +8,12 @@ use Rattle.std.specs.List.Sorted.{IsStrictlySortedBy}
 use Rattle.std.specs.Ordering.{nat_cmp}
 use Rattle.office_records.specs.Lists.{numbered}
 use Rattle.office_records.specs.Tree.{TreeState}
+use Rattle.office_records.specs.declared.action.Action.TheVariants as action
 use Rattle.office_records.specs.declared.status.Status.TheVariants as status
 use Rattle.office_records.proofs.Places.{numbered_within}
 use Rattle.office_rules.specs.Acts.{after, answers}
 use Rattle.office_rules.specs.Certificates.{certificate_text}
+use Rattle.office_rules.specs.Holds.{is_held}
 use Rattle.office_rules.specs.Outcomes.{is_ending}
 use Rattle.office_rules.specs.Runs.{certificate_of, entries_of, opened_by, run_day, spent_list}
 use Rattle.office_rules.specs.Sound.{IsSound}
@@ -21,6 +23,7 @@ use Rattle.office_rules.specs.declared.answer.Answer.{Answer}
 use Rattle.office_rules.specs.declared.answer.Answer.TheVariants as answer
 use Rattle.office_rules.specs.declared.entry.Entry.{Entry}
 use Rattle.office_rules.specs.declared.outcome.Outcome.{Outcome}
+use Rattle.office_rules.specs.declared.outcome.Outcome.TheVariants as outcome
 use Rattle.office_rules.specs.declared.run.Run.{Run}
 use Rattle.office_rules.proofs.Listing.{listed_by_number, listed_entries}
 use Rattle.office_rules.proofs.SoundEmpty.{sound_empty}
@@ -28,12 +31,14 @@ use Rattle.office_rules.proofs.SoundMaps.{is_there, one_there}
 use Rattle.office_rules.proofs.SoundTaken.{taken}
 use Rattle.office_evidence.specs.History.{AreWellFormed, IsStepAt, before}
 use Rattle.office_evidence.specs.Parsed.{Certificate, IsTextOf}
-use Rattle.office_evidence.specs.Truth.{AreTheSteps, IsBetween, IsTrueCertificate, IsTrueLine, NoOtherWent}
+use Rattle.office_evidence.specs.Truth.{AreTheSteps, CameTo, IsBetween, IsTrueCertificate, IsTrueLine, IsWarranted, LeavesNoneOut, NoOtherWent, WasDue, WasReady}
 use Rattle.office_evidence.specs.declared.parsed.EntryLine.{EntryLine}
+use Rattle.office_evidence.proofs.Completing.{comes_to, takes_ready, was_destroyed}
 use Rattle.office_evidence.proofs.Coming.{DidTake, entry_comes}
 use Rattle.office_evidence.proofs.Lasting.{HasCertificate, HasEntry, HasRecords, HasRun, HasRuns, certificate_lasts, entry_lasts, other_key, records_last, runs_last}
 use Rattle.office_evidence.proofs.Openings.{IsRun, after_opening, has_run, is_closed, is_opened, is_this, run_of}
 use Rattle.office_evidence.proofs.Places.{answered_at, before_end, came, lasts, lasts_from, next_at, sound_at}
+use Rattle.office_evidence.proofs.SpentLines.{are_the_spent}
 use Rattle.office_evidence.proofs.TrueLines.{IsStep, gone_ended, line_is_true, step_is, written_since}
 use Rattle.office_evidence.proofs.Viewed.{in_mapped, line_in, mapped_from, same_text, view_of}
 use Rattle.office_evidence.proofs.WellFormed.{heads_there, listed_under, spent_there, view_formed}
@@ -48,6 +53,18 @@ text_by s run day by it there on_day opened =
     let day_is : run_day s run ≡ day = ap (λ (o : Option Run). unwrap_or (option_map (λ it. it.day) o) (pos 0)) there ∙ on_day in
     let by_is : opened_by s run ≡ by = ap (λ (o : Option Run). unwrap_or (option_map (λ it. it.by) o) []) there ∙ opened in
     λ i. certificate_text s.tree run (day_is i) (by_is i) (entries_of s run) (spent_list s.tree (entries_of s run))
+
+-- and it is the text of the run's view
+pub text_of_run : (s : State) (run : ℕ) (day : ℤ) (by : List ℕ) → IsSound s → HasRun run day by s
+    → IsTextOf (view_of s.office.tree run day by (entries_of s.office run) (spent_list s.office.tree (entries_of s.office run))) (certificate_of s.office run)
+text_of_run s run day by sound has =
+    let within = numbered_within s.office.runs run has.it has.there in
+    record {
+      formed = view_formed s run sound day by has within.1;
+      same =
+          text_by s.office run day by has.it has.there has.on_day has.opened_by
+          ∙ same_text s.office.tree run day by (entries_of s.office run) (spent_list s.office.tree (entries_of s.office run)) (heads_there s run sound) (spent_there s run sound);
+    }
 
 module _ (s : State) (acts : List Act) (sound : IsSound s) (formed : AreWellFormed acts) (run : ℕ) (text : List ℕ) (it : IsRun s acts sound formed run text) where
   -- the state in which the run is closed
@@ -64,16 +81,7 @@ module _ (s : State) (acts : List Act) (sound : IsSound s) (formed : AreWellForm
   last_run = has_run s acts sound formed run text it it.closing it.in_order
 
   is_text : IsTextOf view text
-  is_text =
-      let has = last_run in
-      let within = numbered_within last.office.runs run has.it has.there in
-      record {
-        formed = view_formed last run last_sound it.opens.day it.opens.by has within.1;
-        same =
-            it.close.is
-            ∙ text_by last.office run it.opens.day it.opens.by has.it has.there has.on_day has.opened_by
-            ∙ same_text last.office.tree run it.opens.day it.opens.by (entries_of last.office run) (spent_list last.office.tree (entries_of last.office run)) (heads_there last run last_sound) (spent_there last run last_sound);
-      }
+  is_text = subst (IsTextOf view) (sym it.close.is) (text_of_run last run it.opens.day it.opens.by last_sound last_run)
 
   -- the first state has fewer runs
   later_than : length s.office.runs < run
@@ -116,12 +124,24 @@ module _ (s : State) (acts : List Act) (sound : IsSound s) (formed : AreWellForm
       let same = is_this s acts sound formed run text it j found.0 low (omega (arith, high)) found.1.did.open_is in
       subst (λ (n : ℕ). IsStep s acts sound formed n j r o) same found.1
 
-  every_step : (j r : ℕ) (o : Outcome) → IsBetween it.opening it.closing j → IsStepAt s acts j r o → (line : EntryLine) × Contains view.entries line × (line.record_no ≡ r) × (line.outcome ≡ o)
-  every_step j r o between is =
+  -- the line of a step is true of it
+  line_of : (j r : ℕ) (o : Outcome) → IsBetween it.opening it.closing j → IsStepAt s acts j r o
+      → (line : EntryLine) × Contains view.entries line × (line.record_no ≡ r) × (line.outcome ≡ o) × IsTrueLine s acts view.day j line
+  line_of j r o between is =
+      let high = between.before in
       let found = step_of_run j r o between is in
-      let there = written_since s acts sound formed run r j it.closing found.entry found.done found.at found.did between.before in
+      let there = written_since s acts sound formed run r j it.closing found.entry found.done found.at found.did high in
       let listed = (listed_entries last run found.entry last_sound).1 (r, there) in
-      (line_in last.office.tree found.entry, in_mapped (line_in last.office.tree) (entries_of last.office run) found.entry listed, found.record_no, found.outcome)
+      let has = has_run s acts sound formed run text it j between.after in (
+        line_in last.office.tree found.entry,
+        in_mapped (line_in last.office.tree) (entries_of last.office run) found.entry listed,
+        found.record_no,
+        found.outcome,
+        line_is_true s acts sound formed run r j it.closing found.entry found.done it.opens.day it.opens.by (omega arith) found.at found.did has,
+      )
+
+  every_step : (j r : ℕ) (o : Outcome) → IsBetween it.opening it.closing j → IsStepAt s acts j r o → (line : EntryLine) × Contains view.entries line × (line.record_no ≡ r) × (line.outcome ≡ o)
+  every_step j r o between is = let line = line_of j r o between is in (line.0, line.1, line.2, line.3)
 
   -- no record is taken twice
   apart : (i j r : ℕ) (o p : Outcome) → IsBetween it.opening it.closing i → IsBetween it.opening it.closing j → IsStepAt s acts i r o → IsStepAt s acts j r p → i < j → ⊥
@@ -149,6 +169,26 @@ module _ (s : State) (acts : List Act) (sound : IsSound s) (formed : AreWellForm
     once = once;
     by_number = subst (λ (ns : List ℕ). IsStrictlySortedBy nat_cmp ns) (same_numbers last.office.tree (entries_of last.office run)) (listed_by_number last run last_sound);
   }
+
+  -- ---- nothing is left out
+
+  ready_line : (p r : ℕ) → CameTo s acts it.opening it.closing p r → WasReady (before s acts p).office.tree r it.opens.day
+      → (line : EntryLine) × Contains view.entries line × (line.record_no ≡ r) × IsTrueLine s acts view.day p line
+  ready_line p r at ready =
+      let taken = takes_ready s acts sound formed run text it later_than p r at ready in
+      let line = line_of p r taken.0 taken.1 taken.2 in
+      (line.0, line.1, line.2, line.4)
+
+  destroyed_line : (p r : ℕ) → CameTo s acts it.opening it.closing p r → WasDue (before s acts p).office.tree r it.opens.day action.Destroy
+      → is_held (before s acts p).office.holds (before s acts p).office.tree r ≡ false → (line : EntryLine) × Contains view.entries line × (line.record_no ≡ r) × (line.outcome ≡ outcome.Destroyed)
+  destroyed_line p r at due free =
+      let v = (before s acts p).office in
+      let line = ready_line p r at (inl due) in
+      let warranted = subst (λ (n : ℕ). IsWarranted v it.opens.day n line.0.outcome) line.2 line.3.warranted in
+      (line.0, line.1, line.2, was_destroyed v r it.opens.day line.0.outcome due free warranted)
+
+  none_left_out : LeavesNoneOut s acts view it.opening it.closing
+  none_left_out = record { came = λ r. comes_to s acts it.opening it.closing r it.in_order; ready = ready_line; destroyed = destroyed_line }
 
   -- ---- nothing else went
 
@@ -207,7 +247,9 @@ module _ (s : State) (acts : List Act) (sound : IsSound s) (formed : AreWellForm
       in_order = it.in_order;
       closed = is_closed s acts sound formed run text it;
       lines = are_the_steps;
+      complete = none_left_out;
       no_other = no_other;
+      spent = are_the_spent last run last_sound it.opens.day it.opens.by;
       kept = kept;
     };
   }

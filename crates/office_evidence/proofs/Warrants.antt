@@ -1,5 +1,5 @@
 -- What the outcome of a step rests on: the status, the plan and the holds of the record just before it.
-use Rattle.std.proofs.Common.{◌≡◌, ℕ, ◌≤ℤ◌, ◌&&◌, ℤ, Bool, true, false, Option, Some, None, refl, sym, subst, int_le, option_and_then, arith}
+use Rattle.std.proofs.Common.{◌≡◌, inl, inr, ℕ, ◌≤ℤ◌, ◌&&◌, ℤ, Bool, true, false, Option, Some, None, refl, sym, subst, int_le, option_and_then, arith}
 use Rattle.std.specs.Prelude.{IsSome}
 use Rattle.std.proofs.lemmas.Bool.{and_parts}
 use Rattle.std.proofs.lemmas.Int.{ints}
@@ -43,7 +43,7 @@ module _ (s : State) (r : ℕ) (day : ℤ) (o : Outcome) where
   by_outcome p same is = subst Warranted (same_outcome p o same) is
 
   destroyed_by : (held : Bool) → is_held s.office.holds s.office.tree r ≡ held → WasDue s.office.tree r day action.Destroy → outcome_by (Some status.Here) (Some action.Destroy) held ≡ Some o → Warranted o
-  destroyed_by true covered was comes = by_outcome outcome.Skipped comes covered
+  destroyed_by true covered was comes = by_outcome outcome.Skipped comes (inl was, covered)
   destroyed_by false free was comes = by_outcome outcome.Destroyed comes (was, free)
 
   here_by : (plan : Option Action) → action_of s.office.tree r ≡ plan → status_of s.office.tree r ≡ Some status.Here → may_begin s.office.tree r day ≡ true
@@ -56,7 +56,7 @@ module _ (s : State) (r : ℕ) (day : ℤ) (o : Outcome) where
       destroyed_by (is_held s.office.holds s.office.tree r) refl (was_due s.office.tree r day action.Destroy here plan may) comes
 
   received_by : (held : Bool) → is_held s.office.holds s.office.tree r ≡ held → WasReceived s.office.tree r → outcome_by (Some status.Received) (action_of s.office.tree r) held ≡ Some o → Warranted o
-  received_by true covered was comes = by_outcome outcome.Skipped comes covered
+  received_by true covered was comes = by_outcome outcome.Skipped comes (inr was, covered)
   received_by false free was comes = by_outcome outcome.Transferred comes (was, free)
 
   status_by : (was : Option Status) → status_of s.office.tree r ≡ was → IsSound s → (head : Record) → numbered s.office.tree.records r ≡ Some head → ready_by was (may_begin s.office.tree r day) ≡ true

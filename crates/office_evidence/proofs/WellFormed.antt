@@ -71,7 +71,7 @@ module _ (s : State) (run : ℕ) (sound : IsSound s) where
       formed_line e (numbered s.office.tree.records e.record_no) head.0 head.1 (sound.limits.entry_forms run e.record_no e there) (sound.limits.tree_forms.records e.record_no head.0 head.1)
       (sound.entries.holds run e.record_no e there) (omega (arith, within.1, few))
 
-  spent_of : (a : ℕ) → Contains (spent_list s.office.tree (entries_of s.office run)) a → (0 < a) × (a ≤ length s.office.tree.aggregations)
+  pub spent_of : (a : ℕ) → Contains (spent_list s.office.tree (entries_of s.office run)) a → (0 < a) × (a ≤ length s.office.tree.aggregations)
   spent_of a listed = within_of (length s.office.tree.aggregations) a ((listed_aggregations s.office.tree (entries_of s.office run) a).0 listed).0
 
   pub spent_there : All (λ a. IsSome (numbered s.office.tree.aggregations a)) (spent_list s.office.tree (entries_of s.office run))

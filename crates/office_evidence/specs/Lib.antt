@@ -1,4 +1,5 @@
 pub mod History
 pub mod Parsed
 pub mod Reading
+pub mod Texts
 pub mod Truth

@@ -1,21 +1,19 @@
-//! That a certificate is a text.
-ghost use Rattle.std.specs.Prelude.{◌≡◌, ℕ, List, Some, IsUtf8, length, ◌<◌};
-ghost use Rattle.std.specs.FinMap.{get};
+//! That the certificates of an office are texts.
+ghost use Rattle.std.specs.Prelude.{List, ℕ, IsUtf8};
 ghost use Rattle.office_rules.specs.Acts.{after};
-ghost use Rattle.office_rules.specs.State.{Office, empty_state};
+ghost use Rattle.office_rules.specs.Sound.{IsSound};
+ghost use Rattle.office_rules.specs.State.{State, empty_state};
 ghost use Rattle.office_rules.specs.declared.act.Act.{Act};
 ghost use Rattle.office_evidence.specs.History.{AreWellFormed};
 ghost use Rattle.office_evidence.specs.Parsed.{Certificate, IsTextOf};
+ghost use Rattle.office_evidence.specs.Texts.{AreCertificatesUtf8};
 
-use crate::laws::truth::law_of_a_true_certificate;
-
-/// A certificate is a text of UTF-8, and so is each that an office keeps that was new: the rows of
-/// its tables are of their forms, so that an opening does not report damage of them.
+/// The text of a certificate is UTF-8. Acts leave each certificate of a sound office so, and each
+/// of an office that was new is UTF-8: a table of certificates reads back as it was written.
 pub fn law_of_certificate_texts()
     ensures text { (c : Certificate) (text : List ℕ) → IsTextOf c text → IsUtf8 text }
-    ensures kept { (acts : List Act) (office : Office) (run : ℕ) (text : List ℕ)
-        → AreWellFormed acts → office ≡ (after empty_state acts).office
-        → get office.certificates run ≡ Some text → IsUtf8 text }
-{
-    law_of_a_true_certificate();
-}
+    ensures kept { (s : State) (acts : List Act) → IsSound s → AreWellFormed acts
+        → AreCertificatesUtf8 s.office → AreCertificatesUtf8 (after s acts).office }
+    ensures new_office { (acts : List Act) → AreWellFormed acts
+        → AreCertificatesUtf8 (after empty_state acts).office }
+{}

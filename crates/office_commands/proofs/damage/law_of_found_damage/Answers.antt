@@ -8,9 +8,9 @@ returns-clause-left g c shielded =
     left_clean (start_of g.S.Start) (λ it. g.C.Calls.history it.calls) (λ _. refl) (λ _. refl) c.args.left.now shielded
 
 pub returns-clause-command : goal.returns-clause-command
-returns-clause-command g c image order text written after exit =
-    found (start_of g.S.Start) (λ it. g.C.Calls.history it.calls) (λ _. refl) (λ _. refl) c.args.left.now image _ written after exit
+returns-clause-command g c image opened order text written after exit =
+    found (start_of g.S.Start) (λ it. g.C.Calls.history it.calls) (λ _. refl) (λ _. refl) c.args.left.now image opened _ written after exit
 
 pub returns-clause-service : goal.returns-clause-service
-returns-clause-service g c image port count written after exit =
-    found (start_of g.S.Start) (λ it. g.C.Calls.history it.calls) (λ _. refl) (λ _. refl) c.args.left.now image _ written after exit
+returns-clause-service g c image opened port count written after exit =
+    found (start_of g.S.Start) (λ it. g.C.Calls.history it.calls) (λ _. refl) (λ _. refl) c.args.left.now image opened _ written after exit

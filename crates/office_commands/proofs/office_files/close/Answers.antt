@@ -11,7 +11,7 @@ use Rattle.sqlite_pool.proofs.StateLemmas.{clean_is, may_leave_is}
 use Rattle.sqlite.specs.Closing.{HoldsAlone, IsCopied}
 use Rattle.sqlite.specs.Files.{IsClosed}
 use Rattle.sqlite.proofs.Theorems.{copied}
-use Rattle.office_commands.proofs.Closings.{holds_last}
+use Rattle.office_commands.proofs.Closings.{excused, holds_last}
 use Rattle.office_commands.proofs.office_files.close.Goals as goal
 
 pub returns-in-Ok-clause-left : goal.returns-in-Ok-clause-left
@@ -79,4 +79,7 @@ returns-in-Err-clause-left g c =
           let clean : IsClean (view before) = omega (arith, q.clean) in
           let early : IsClean (view c.into_store-store.result) = omega (arith, c.rollback.ensures.quiet.clean) in
           ap (λ (v : View). v.is_numbered) (c.checkpoint.ensures.same on) ∙ c.rollback.ensures.undone.numbered ∙ c.into_store-store.ensures.numbered early;
+      failed = λ none.
+          let clean : IsClean (view before) = omega (arith, q.clean) in
+          excused c.args.conn before last c.in-Err.why first.counts q.counts (first.closes clean) (λ on. (c.rollback.ensures.undone.undone on).1) (c.in-Err.ensures.cause none);
     }
