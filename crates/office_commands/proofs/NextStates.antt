@@ -41,6 +41,7 @@ use Rattle.office_command_line.specs.declared.register.Register.TheVariants as r
 use Rattle.office_commands.specs.Applying.{Applies, IsUnread, Performs}
 use Rattle.office_commands.specs.Certifying.{CertificateEnds, Certifies, IsCertificate}
 use Rattle.office_commands.specs.Exporting.{ExportEnds, Exports, IsRegister, IsRegisterText}
+use Rattle.office_wire.specs.Answering.{HasCertificate}
 use Rattle.office_wire.specs.Exporting.{IsSomeOut}
 use Rattle.office_wire.specs.declared.record_import.ImportStop.{ImportStop}
 use Rattle.office_wire.specs.declared.record_import.ImportStop.TheVariants as import
@@ -202,7 +203,7 @@ module _ (stay : StaySound) (ends : IsEnded) (At : Trees → State → Type 0) (
 
   certifies_at : (run : ℕ) (written after : Option (List ℕ)) (exit : Exit) → Certifies (FromOpened old new) run written after exit → Certifies (λ Is. Is s) run written after exit
   certifies_at run written after exit (inl (text, at, reported)) = inl (text, of_opened (IsCertificate run text) at, reported)
-  certifies_at run written after exit (inr none) = inr none
+  certifies_at run written after exit (inr (is, silent, there)) = inr (is, silent, of_opened (λ t. HasCertificate t run) there)
 
   certificate_left : (run : ℕ) (written after : Option (List ℕ)) (exit : Exit) → CertificateEnds run old new written after exit → LeavesSo (ReadsAt (Certifies (λ Is. Is s) run written after exit) written after exit s)
   certificate_left run written after exit (inl none) = fault_left (ReadsAt (Certifies (λ Is. Is s) run written after exit) written after exit s) written after exit (λ alone. inl alone) none

@@ -1,5 +1,5 @@
 -- Where acts and resumptions at a desk, and the opening of one, leave an office.
-use Rattle.std.proofs.Common.{false, ◌≡◌, ◌⊎◌, inl, inr, ℕ, zero, suc, ◌+◌, List, [], ◌∷◌, length, take, Ok, Err, Option, Some, None, Vec, refl, sym, ap, subst, ◌∙◌}
+use Rattle.std.proofs.Common.{false, ◌≡◌, ◌⊎◌, inl, inr, ℕ, zero, suc, ◌+◌, List, [], ◌∷◌, length, take, Ok, Err, Option, Some, None, Vec, refl, sym, ap, subst, ◌∙◌, arith}
 use Rattle.std.specs.Global.{Global}
 use Rattle.sqlite_trees.specs.Tree.{Trees}
 use Rattle.sqlite_trees.specs.declared.store.Store.{Ghosts}
@@ -9,7 +9,7 @@ use Rattle.sqlite.specs.State.{State as FileState, HasCleanDisk}
 use Rattle.office_rules.specs.Acts.{after, answers, step}
 use Rattle.office_rules.specs.Forms.{IsWellFormedAct}
 use Rattle.office_rules.specs.Rows.{rows_of}
-use Rattle.office_rules.specs.Runs.{candidates, open_run, whole, with_outcomes}
+use Rattle.office_rules.specs.Runs.{after_steps, candidates, open_run, whole, with_outcomes}
 use Rattle.office_rules.specs.Sound.{IsSound}
 use Rattle.office_rules.specs.State.{State, empty_state}
 use Rattle.office_rules.specs.declared.act.Act.{Act}
@@ -21,14 +21,15 @@ use Rattle.office_sql.specs.Office.{IsAtRestOver, IsOfficeIn}
 use Rattle.office_store.specs.RepresentsRows.{ContainsRows, RepresentsRows, RepresentsRowsIn}
 use Rattle.office_store.specs.declared.fault.Fault.{Fault}
 use Rattle.office_store.specs.declared.fault.Fault.TheVariants as fault
+use Rattle.office_desk.proofs.StepFates.{after_run, are_steps, run_steps}
 use Rattle.office_desk.specs.Desk.{DeskState}
 use Rattle.office_desk.specs.Headline.{AreWellFormed}
-use Rattle.office_desk.specs.Leaving.{IsAt, StopsLeaving}
+use Rattle.office_desk.specs.Leaving.{IsAt, LeavesOne, LeavesStep, StopsLeaving}
 use Rattle.office_desk.specs.Opening.{Finds, LeavesTables, OpenFailedLeaves}
 use Rattle.office_desk.specs.Outcomes.{ActsCameTo, FromEach, acts_outcome}
 use Rattle.office_desk.specs.Resuming.{AreRunSteps, resumed_answer}
 use Rattle.office_desk.specs.Resumptions.{IsRunAnswered, RunCameTo, RunOutcome, none_open, run_closed, run_outcome, run_stopped}
-use Rattle.office_life.specs.Life.{DidActs, DidSteps, LeadsBy}
+use Rattle.office_life.specs.Life.{AreStopped, DidActs, DidSteps, IsInterrupted, IsResumedBy, LeadsBy}
 use Rattle.office_life.specs.Standing.{LeavesAt, RestsAt}
 use Rattle.office_life.specs.Tables.{AreTablesAt}
 use Rattle.office_life.specs.declared.reports.StintEnd.TheVariants as end
@@ -53,6 +54,14 @@ steps_prefix zero acts all = tt
 steps_prefix (suc n) [] all = tt
 steps_prefix (suc n) (a ∷ acts) (is, all) = (is, steps_prefix n acts all)
 
+-- so many steps are so many
+length_steps : (n : ℕ) → length (run_steps n) ≡ n
+length_steps zero = refl
+length_steps (suc n) = ap suc (length_steps n)
+
+one_more : (n : ℕ) → length (run_steps (suc n)) ≡ n + 1
+one_more n = let many = length_steps (suc n) in omega (arith, many)
+
 sound_acts : StaySound → (acts : List Act) (s : State) → IsSound s → AreWellFormed acts → IsSound (after s acts)
 sound_acts stay [] s sound formed = sound
 sound_acts stay (a ∷ acts) s sound (is, rest) = sound_acts stay acts (step s a).1 (stay s a sound is) rest
@@ -74,19 +83,23 @@ module _ (stay : StaySound) (s : State) (sound : IsSound s) (acts : List Act) wh
   sound_at formed n = sound_acts stay (take n acts) s sound (well_formed_prefix n acts formed)
 
   -- a fault stopped them after so many
-  stopped_at : AreWellFormed acts → (new : FileState) (found : List Answer) (f : Fault) → found ≡ answers s (take (length found) acts)
-      → StopsLeaving (after s (take (length found) acts)) (after s (take (length found + 1) acts)) f new → ((db : Trees) → new.may_leave db → IsOfficeIn schema_version.Two db) → (db : Trees) → new.may_leave db
-      → (done : List Act) × ((found ≡ answers s (take (length found) acts)) × ((done ≡ take (length found) acts) ⊎ (done ≡ take (length found + 1) acts))) × AreTablesAt db (after s done)
-  stopped_at formed new found fault.Memory is left offices db may = let n = length found in (take n acts, (is, inl refl), at_rows new _ (sound_at formed n) left db may)
-  stopped_at formed new found fault.Store is left offices db may =
-      let n = length found in
-      elim (left.either db may) [
-        | inl old ↦ (take n acts, (is, inl refl), at_tables _ (sound_at formed n) db (offices db may) old)
-        | inr next ↦ (take (n + 1) acts, (is, inr refl), at_tables _ (sound_at formed (n + 1)) db (offices db may) next)
+  stopped_at : AreWellFormed acts → (new : FileState) (given : List Answer) (f : Fault) → given ≡ answers s (take (length given) acts) → LeavesOne f (length given) acts
+      → StopsLeaving (after s (take (length given) acts)) (after s (take (length given + 1) acts)) f new → ((db : Trees) → new.may_leave db → IsOfficeIn schema_version.Two db) → (db : Trees) → new.may_leave db
+      → (done : List Act) × AreStopped acts given f s done × AreTablesAt db (after s done)
+  stopped_at formed new given fault.Memory is one leaves offices db may =
+      let n = length given in
+      (take n acts, record { answered = is; left = one; count = n; counted = refl; are = refl }, at_rows new _ (sound_at formed n) leaves db may)
+  stopped_at formed new given fault.Store is one leaves offices db may =
+      let n = length given in
+      elim (leaves.either db may) [
+        | inl old ↦ (take n acts, record { answered = is; left = one; count = n; counted = inl refl; are = refl }, at_tables _ (sound_at formed n) db (offices db may) old)
+        | inr next ↦ (take (n + 1) acts, record { answered = is; left = one; count = n + 1; counted = inr refl; are = refl }, at_tables _ (sound_at formed (n + 1)) db (offices db may) next)
       ]
-  stopped_at formed new found fault.Reopen is left offices db may = let n = length found in (take (n + 1) acts, (is, inr refl), at_rows new _ (sound_at formed (n + 1)) left db may)
-  stopped_at formed new found fault.Damaged is left offices db may = absurd left
-  stopped_at formed new found fault.Version is left offices db may = absurd left
+  stopped_at formed new given fault.Reopen is one leaves offices db may =
+      let n = length given in
+      (take (n + 1) acts, record { answered = is; left = one; count = n + 1; counted = refl; are = refl }, at_rows new _ (sound_at formed (n + 1)) leaves db may)
+  stopped_at formed new given fault.Damaged is one leaves offices db may = absurd leaves
+  stopped_at formed new given fault.Version is one leaves offices db may = absurd leaves
 
   module _ (given found : Vec Answer Global) (none : given.items ≡ []) (new : FileState) where
     did_all : ActsCameTo s acts (acts_outcome (Ok tt) given.items found.items) new → LeavesAt (LeadsBy (DidActs acts (end.Done found)) s) new
@@ -97,7 +110,7 @@ module _ (stay : StaySound) (s : State) (sound : IsSound s) (acts : List Act) wh
     did_some : (f : Fault) → ActsCameTo s acts (acts_outcome (Err f) given.items found.items) new → LeavesAt (LeadsBy (DidActs acts (end.Stopped found f)) s) new
     did_some f came db may =
         let it = subst (λ (xs : List Answer). ActsCameTo s acts (acts_outcome (Err f) xs found.items) new) none came in
-        let left = stopped_at it.formed new found.items f it.answered it.leaves it.offices db may in
+        let left = stopped_at it.formed new found.items f it.answered it.fits.1 it.leaves it.offices db may in
         (after s left.0, (left.0, left.1, refl), left.2)
 
 -- the same once the desk is closed
@@ -148,10 +161,40 @@ module _ (one : IsOneDatabase) (stay : StaySound) {S : Type 0} (g : Ghosts S) (s
   resumed_to answer old new here answered it db may =
       let o = run_outcome (Ok answer) (open_run old.office) in
       let from = answered ∙ ap (λ x. resumed_answer (open_run x)) (sym here) in
-      (after s (taken o new it db may).0, ((taken o new it db may).0, ((taken o new it db may).1, from, none_after answer (open_run old.office) new it db may), refl), there o new it db may)
+      let how : IsResumedBy answer s (taken o new it db may).0 = record { steps = (taken o new it db may).1; answered = from; closed = none_after answer (open_run old.office) new it db may } in
+      (after s (taken o new it db may).0, ((taken o new it db may).0, how, refl), there o new it db may)
+
+  -- a fault stopped it after so many
+  sound_after : (n : ℕ) → IsSound (after s (run_steps n))
+  sound_after n = sound_acts stay (run_steps n) s sound (well_formed_steps (run_steps n) (are_steps n))
+
+  -- the tables of the state after so many are those after so many acts
+  at_steps : (n : ℕ) (db : Trees) → IsOfficeIn schema_version.Two db → RepresentsRows (rows_of (after_steps s n)) db → AreTablesAt db (after s (run_steps n))
+  at_steps n db office rows = at_tables _ (sound_after n) db office (subst (λ (t : State). RepresentsRows (rows_of t) db) (sym (after_run n s)) rows)
+
+  interrupted_by : (f : Fault) (file : FileState) → ((db : Trees) → file.may_leave db → IsOfficeIn schema_version.Two db) → (n : ℕ) → LeavesStep s f n
+      → StopsLeaving (after_steps s n) (after_steps s (suc n)) f file → (db : Trees) → file.may_leave db → (done : List Act) × IsInterrupted f s done × AreTablesAt db (after s done)
+  interrupted_by fault.Memory file offices n one leaves db may = (
+    run_steps n,
+    record { steps = are_steps n; taken = n; left = one; counted = length_steps n },
+    at_steps n db (offices db may) (subst (RepresentsRows (rows_of (after_steps s n))) (sym (leaves.rest.only db may)) leaves.represents),
+  )
+  interrupted_by fault.Store file offices n one leaves db may = elim (leaves.either db may) [
+    | inl old ↦ (run_steps n, record { steps = are_steps n; taken = n; left = one; counted = inl (length_steps n) }, at_steps n db (offices db may) old)
+    | inr next ↦ (run_steps (suc n), record { steps = are_steps (suc n); taken = n; left = one; counted = inr (one_more n) }, at_steps (suc n) db (offices db may) next)
+  ]
+  interrupted_by fault.Reopen file offices n one leaves db may = (
+    run_steps (suc n),
+    record { steps = are_steps (suc n); taken = n; left = one; counted = one_more n },
+    at_steps (suc n) db (offices db may) (subst (RepresentsRows (rows_of (after_steps s (suc n)))) (sym (leaves.rest.only db may)) leaves.represents),
+  )
+  interrupted_by fault.Damaged file offices n one leaves db may = absurd leaves
+  interrupted_by fault.Version file offices n one leaves db may = absurd leaves
 
   interrupted_at : (f : Fault) (new : DeskState S) → RunCameTo g s (run_stopped f) new → LeavesAt (LeadsBy (DidSteps (end.Interrupted f)) s) (state g new.connection)
-  interrupted_at f new it db may = (after s (taken (run_stopped f) new it db may).0, ((taken (run_stopped f) new it db may).0, (taken (run_stopped f) new it db may).1, refl), there (run_stopped f) new it db may)
+  interrupted_at f new it db may =
+      let left = interrupted_by f (state g new.connection) it.offices it.leads.0 it.leads.1 it.leads.3 db may in
+      (after s left.0, (left.0, left.1, refl), left.2)
 
 -- the same once the desk is closed
 module _ (one : IsOneDatabase) (stay : StaySound) {S : Type 0} (g : Ghosts S) (old new : DeskState S) (conn : Held S) (closed : conn ≡ new.connection) where

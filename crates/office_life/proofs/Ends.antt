@@ -56,15 +56,15 @@ or_last (x ∷ reports) it (inr rest) = elim (or_last reports it rest) [ inl bef
 
 -- what a stint did that resumed the run
 did_steps : (it : StintEnd) (s : State) (done : List Act) → DidSteps it s done → AreRunSteps done
-did_steps end.FilesShut s done did = subst AreRunSteps (sym did) tt
-did_steps (end.OfficeShut f) s done did = subst AreRunSteps (sym did) tt
+did_steps (end.FilesShut e) s done did = subst AreRunSteps (sym did) tt
+did_steps (end.OfficeShut f) s done did = subst AreRunSteps (sym did.0) tt
 did_steps (end.Done found) s done did = absurd did
 did_steps (end.Stopped found f) s done did = absurd did
-did_steps (end.Resumed answer) s done did = did.0
-did_steps (end.Interrupted f) s done did = did
+did_steps (end.Resumed answer) s done did = did.steps
+did_steps (end.Interrupted f) s done did = did.steps
 
 did_resume : (it : StintEnd) (s : State) (done : List Act) → IsResumed it → DidSteps it s done → open_run (after s done).office ≡ None
-did_resume it s done (answer, is) did = (subst (λ (e : StintEnd). DidSteps e s done) is did).2
+did_resume it s done (answer, is) did = (subst (λ (e : StintEnd). DidSteps e s done) is did).closed
 
 module _ (s : State) where
   -- all that was done were steps

@@ -1,5 +1,5 @@
 -- To which states a stint, a crash and an opening lead.
-use Rattle.std.proofs.Common.{IfSome, Option, None, Some, ◌≡◌, ◌⊎◌, inl, inr, ℕ, ◌+◌, ◌<◌, ◌∙◌, ap, get_or, length, take, List, [], ◌∷◌, ◌++◌, refl, sym, subst}
+use Rattle.std.proofs.Common.{◌≡◌, ◌⊎◌, inl, inr, ℕ, ◌+◌, ◌<◌, ◌∙◌, ap, get_or, length, take, List, [], ◌∷◌, ◌++◌, refl, sym, subst}
 use Rattle.std.proofs.lemmas.List.{take_more}
 use Rattle.std.proofs.Math.Logic.{∥∥₁_elim, ∥∥₁_map}
 use Rattle.sqlite_disk.specs.declared.Disk.{Ghosts}
@@ -11,6 +11,7 @@ use Rattle.sqlite_wal.specs.Recovery.{Image}
 use Rattle.sqlite_wal.proofs.LogLemmas.{SeenMayStay}
 use Rattle.sqlite.specs.Files.{file_state, image_of, over_files}
 use Rattle.sqlite.specs.Held.{Held}
+use Rattle.sqlite.specs.declared.error.Error.{Error}
 use Rattle.office_rules.specs.Acts.{after}
 use Rattle.office_rules.specs.Sound.{IsSound}
 use Rattle.office_rules.specs.State.{State, empty_state}
@@ -19,6 +20,7 @@ use Rattle.office_desk.specs.Desk.{DeskState}
 use Rattle.office_desk.specs.Leaving.{IsAt}
 use Rattle.office_desk.proofs.Found.{after-append}
 use Rattle.office_life.specs.Life.{AreKnownFrom, Did, Leads, LeadsOn, began, lived, stage_at_end}
+use Rattle.office_life.specs.Opening.{StopsOffice}
 use Rattle.office_life.specs.Standing.{FilesLead, FindsLed, IsKnownAt, LeavesAt, RestsAt, Stage, StandsAt, half_made, stage_after, stored, unmade}
 use Rattle.office_life.specs.Tables.{ContainTables}
 use Rattle.office_life.specs.declared.reports.Remains.{Remains}
@@ -29,13 +31,13 @@ use Rattle.office_life.specs.declared.reports.Task.{Task}
 use Rattle.office_life.specs.declared.reports.Task.TheVariants as task
 
 -- nothing was done
-did_none : (asked : Task) (s : State) → Leads asked end.FilesShut s s
-did_none (task.Acts acts) s = ([], refl, refl)
-did_none task.Resumption s = ([], refl, refl)
+did_none : (asked : Task) (e : Error) (s : State) → Leads asked (end.FilesShut e) s s
+did_none (task.Acts acts) e s = ([], refl, refl)
+did_none task.Resumption e s = ([], refl, refl)
 
-pub did_nothing : (asked : Task) (f : Fault) (s : State) → Leads asked (end.OfficeShut f) s s
-did_nothing (task.Acts acts) f s = ([], refl, refl)
-did_nothing task.Resumption f s = ([], refl, refl)
+pub did_nothing : (asked : Task) (f : Fault) (s : State) → StopsOffice s f → Leads asked (end.OfficeShut f) s s
+did_nothing (task.Acts acts) f s why = ([], (refl, why), refl)
+did_nothing task.Resumption f s why = ([], (refl, why), refl)
 
 -- what stands for a state at one stage does so at the next
 on_stage : (stage : Stage) (it : Remains) → (it ≡ remains.Held → ⊥) → IsKnownAt stage it → (image : Image) (u : State) → StandsAt stage image u → StandsAt (stage_after stage it) image u
@@ -48,13 +50,13 @@ on_stage half_made remains.Begun other known image u stands = absurd known
 on_stage stage remains.Unread other known image u stands = absurd known
 on_stage stage remains.Shut other known image u stands = absurd known
 
-module _ {D : Type 0} (g : Ghosts D) (stays : SeenMayStay g) (files it : Files D) where
+module _ {D : Type 0} (g : Ghosts D) (stays : SeenMayStay g) (files : Files D) (new : Image → Type 0) where
   -- files that were opened lead on as their connection does
   pub worked :
       (stage : Stage) (was last : Held (FileStore D g)) (Leads : State → State → Type 0) → ((s : State) → StandsAt stage (image_of g files) s → RestsAt (file_state was) s)
       → ((s : State) → RestsAt (file_state was) s → LeavesAt (Leads s) (file_state last))
-      → ((image : Image) → outcomes g it.log it.db image → ∥ ((db : Trees) × (file_state last).may_leave db × ContainTables image db) ∥₁)
-      → FilesLead stage stored Leads (outcomes g files.log files.db) (outcomes g it.log it.db)
+      → ((image : Image) → new image → ∥ ((db : Trees) × (file_state last).may_leave db × ContainTables image db) ∥₁)
+      → FilesLead stage stored Leads (outcomes g files.log files.db) new
   worked stage was last Leads found leaves left image may = ∣ (
     image_of g files,
     (stays files.log, stays files.db),
@@ -62,13 +64,13 @@ module _ {D : Type 0} (g : Ghosts D) (stays : SeenMayStay g) (files it : Files D
   ) ∣₁
 
   -- and those that were not stay where they were
-  pub not_worked : (stage : Stage) (asked : Task) (left : Remains) → (left ≡ remains.Held → ⊥) → IsKnownAt stage left
-      → ((image : Image) → outcomes g it.log it.db image
+  pub not_worked : (stage : Stage) (asked : Task) (e : Error) (left : Remains) → (left ≡ remains.Held → ⊥) → IsKnownAt stage left
+      → ((image : Image) → new image
       → outcomes g files.log files.db image ⊎ ((s : State) → StandsAt stage (image_of g files) s → ∥ StandsAt (stage_after stage left) image s ∥₁))
-      → FilesLead stage (stage_after stage left) (Leads asked end.FilesShut) (outcomes g files.log files.db) (outcomes g it.log it.db)
-  not_worked stage asked left other known spared image may = elim (spared image may) [
-    | inl was ↦ ∣ (image, was, λ s stands. ∣ (s, did_none asked s, on_stage stage left other known image s stands) ∣₁) ∣₁
-    | inr same ↦ ∣ (image_of g files, (stays files.log, stays files.db), λ s stands. ∥∥₁_map (same s stands) (λ still. (s, did_none asked s, still))) ∣₁
+      → FilesLead stage (stage_after stage left) (Leads asked (end.FilesShut e)) (outcomes g files.log files.db) new
+  not_worked stage asked e left other known spared image may = elim (spared image may) [
+    | inl was ↦ ∣ (image, was, λ s stands. ∣ (s, did_none asked e s, on_stage stage left other known image s stands) ∣₁) ∣₁
+    | inr same ↦ ∣ (image_of g files, (stays files.log, stays files.db), λ s stands. ∥∥₁_map (same s stands) (λ still. (s, did_none asked e s, still))) ∣₁
   ]
 
 -- ---- one stint after another
@@ -122,8 +124,7 @@ lead_as empty was is First Next old new more lead image may =
 
 -- what is opened of files to which others led is at a state to which these led
 module _ {D : Type 0} (g : Ghosts D) (stays : SeenMayStay g) (was is : Stage) (Leads : State → State → Type 0) (old : Image → Type 0) (files : Files D) where
-  pub finds_led : FilesLead was is Leads old (outcomes g files.log files.db) → (desk : Option (DeskState (FileStore D g)))
-      → IfSome desk (λ it. (stage : Stage) (s : State) → StandsAt stage (image_of g files) s → IsAt over_files s it) → IfSome desk (FindsLed was Leads old)
-  finds_led lead None found = tt
-  finds_led lead (Some desk) found =
+  pub finds_led : FilesLead was is Leads old (outcomes g files.log files.db) → (desk : DeskState (FileStore D g))
+      → ((stage : Stage) (s : State) → StandsAt stage (image_of g files) s → IsAt over_files s desk) → FindsLed was Leads old desk
+  finds_led lead desk found =
       ∥∥₁_map (lead (image_of g files) (stays files.log, stays files.db)) (λ k. (k.0, k.1, λ s stands. ∥∥₁_map (k.2 s stands) (λ u. (u.0, u.1, found is u.0 u.2))))

@@ -19,14 +19,13 @@ use Rattle.sqlite_trees.proofs.Doubt.{no_doubt}
 use Rattle.sqlite_wal.specs.Files.{outcomes}
 use Rattle.sqlite_wal.specs.Recovery.{Image, IsIgnored}
 use Rattle.sqlite_wal.specs.Recovery as raw
-use Rattle.sqlite.specs.Closing.{files_left}
 use Rattle.sqlite.specs.Files.{HoldsDatabase, IsCleanLeft, IsEmpty, IsNothing, LeavesFiles, NamesSize, SaysSums, image_of}
 use Rattle.sqlite.specs.Held.{AreDatabases}
 use Rattle.sqlite.specs.declared.file.Leftover.{Leftover}
 use Rattle.sqlite.specs.declared.file.Leftover.TheVariants as left
 use Rattle.sqlite.proofs.FileLemmas.{is_something}
 use Rattle.office_rules.specs.State.{State}
-use Rattle.office_life.specs.Standing.{IsKnownAt, NeverLies, Stage, StandsAt, half_made, remains_of, stage_after, stored, unmade}
+use Rattle.office_life.specs.Standing.{IsKnownAt, NeverLies, Stage, StandsAt, half_made, outcomes_left, remains_of, stage_after, stored, unmade}
 use Rattle.office_life.specs.Tables.{ContainTables}
 use Rattle.office_life.specs.declared.reports.Remains.{Remains}
 use Rattle.office_life.specs.declared.reports.Remains.TheVariants as remains
@@ -178,25 +177,19 @@ module _ {D : Type 0} (g : Ghosts D) (never : NeverLies g) where
   still_held files size unmade known some named sums image stands s (inr none) = absurd (some none.0)
   still_held files size half_made known some named sums image stands s (inr none) = absurd known
 
-  spared_by : (files : Files D) (rest : Leftover D g) (it : Files D) → (it.log, it.db) ≡ files_left rest → LeavesFiles files rest → (stage : Stage) → IsKnownAt stage (remains_of rest)
-      → (image : Image) → outcomes g it.log it.db image → IsSpared files stage (stage_after stage (remains_of rest)) image
-  spared_by files (left.Files now) it is leaves stage known image may = inl (leaves image (subst (λ p. outcomes g p.0 p.1 image) is may))
-  spared_by files (left.Unopened now) it is (inl nothing) stage known image may =
-      elim (nothing.1 image (may_leave_is now.pool image (and_from _ _ (never _) (never _)) (subst (λ p. outcomes g p.0 p.1 image) is may))) [
+  -- what an opening that failed left of the files
+  pub spared : (files : Files D) (rest : Leftover D g) → LeavesFiles files rest → (stage : Stage) → IsKnownAt stage (remains_of rest)
+      → (image : Image) → outcomes_left rest image → IsSpared files stage (stage_after stage (remains_of rest)) image
+  spared files (left.Files now) leaves stage known image may = inl (leaves image may)
+  spared files (left.Unopened now) (inl nothing) stage known image may =
+      elim (nothing.1 image (may_leave_is now.pool image (and_from _ _ (never _) (never _)) may)) [
         | inl was ↦ inl was
         | inr made ↦ inr (under_way files stage known nothing.0 image made)
       ]
-  spared_by files (left.Unopened now) it is (inr some) stage known image may =
-      let kept = some.4 image (may_leave_is now.pool image (and_from _ _ (never _) (never _)) (subst (λ p. outcomes g p.0 p.1 image) is may)) in
+  spared files (left.Unopened now) (inr some) stage known image may =
+      let kept = some.4 image (may_leave_is now.pool image (and_from _ _ (never _) (never _)) may) in
       elim kept.same [
         | inl was ↦ inl was
         | inr stands ↦ inr (still_held files (state_of now).page_size stage known some.0 some.1 some.3 image stands)
       ]
-  spared_by files (left.Store now) it is leaves stage known image may = absurd known
-
-  -- what an opening that failed left of the files
-  pub spared : (files : Files D) (rest : Leftover D g) (it : Files D) → (it.log, it.db) ≡ files_left rest → (IsCleanLeft rest → LeavesFiles files rest)
-      → (found : Remains) → found ≡ remains_of rest → (stage : Stage) → IsKnownAt stage found
-      → (image : Image) → outcomes g it.log it.db image → IsSpared files stage (stage_after stage found) image
-  spared files rest it is leaves found same stage known image may =
-      subst (λ (r : Remains). IsSpared files stage (stage_after stage r) image) (sym same) (spared_by files rest it is (leaves (clean_left never rest)) stage (subst (λ (r : Remains). IsKnownAt stage r) same known) image may)
+  spared files (left.Store now) leaves stage known image may = absurd known

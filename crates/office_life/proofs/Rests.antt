@@ -23,7 +23,7 @@ use Rattle.office_life.proofs.LeftTables.{database_of}
 use Rattle.office_life.proofs.Nothing.{finds_nothing}
 
 -- where there is no object there is room for each table
-abbrev no_schema : Schema
+abbrev pub no_schema : Schema
 no_schema = record { tables = []; indexes = []; views = [] }
 
 all_free : HasRoom version_2 no_schema
@@ -37,6 +37,10 @@ all_free = record {
 none_listed : Lists [] no_schema
 unfolding is_sound_list
 none_listed = record { listed = record { tables = tt; indexes = tt; views = tt; owned = tt; named = tt; loads = refl }; guarded = tt }
+
+-- of a file without rows no table is listed
+pub no_tables : (s : FileState) → IsBlank s → IsEmpty s.now.trees → s.now.schema ≡ no_schema
+no_tables s blank empty = lists_once [] s.now.schema no_schema (subst (λ rows. Lists rows s.now.schema) empty.1 blank.bare.has.database.lists) none_listed
 
 module _ (s : FileState) (opened : Opens s) (live : IsLive s) (only : (db : Trees) → s.may_leave db → db ≡ s.committed.trees) (stays : s.may_leave s.committed.trees) where
   pub same_trees : s.now.trees ≡ s.committed.trees

@@ -6,8 +6,12 @@ use Rattle.office_rules.specs.Runs.{IsMidway, open_run, whole}
 use Rattle.office_rules.specs.State.{State}
 use Rattle.office_rules.specs.declared.act.Act.{Act}
 use Rattle.office_rules.specs.declared.answer.Answer.{Answer}
+use Rattle.office_store.specs.declared.fault.Fault.{Fault}
+use Rattle.office_store.specs.declared.fault.Fault.TheVariants as fault
 use Rattle.office_desk.specs.Fates.{AreContentsAfter}
+use Rattle.office_desk.specs.Leaving.{LeavesOne, LeavesStep}
 use Rattle.office_desk.specs.Resuming.{AreRunSteps, resumed_answer}
+use Rattle.office_life.specs.Opening.{StopsOffice}
 use Rattle.office_life.specs.Standing.{IsKnownAt, Stage, stage_after}
 use Rattle.office_life.specs.declared.reports.Report.{Report}
 use Rattle.office_life.specs.declared.reports.StintEnd.{StintEnd}
@@ -17,30 +21,53 @@ use Rattle.office_life.specs.declared.reports.Task.TheVariants as task
 
 -- ---- one stint
 
--- the acts that were answered were done, and at most one more
-abbrev pub AreAnswered : List Act → List Answer → State → List Act → Type 0
-AreAnswered acts found s done =
-    (found ≡ answers s (take (length found) acts))
-    × ((done ≡ take (length found) acts) ⊎ (done ≡ take (length found + 1) acts))
+-- how many were done of acts or steps that a fault stopped after so many answers: at Memory these, at Reopen one more, at
+-- Store one or the other
+abbrev pub AreDoneAt : Fault → (answered done : ℕ) → Type 0
+AreDoneAt fault.Memory n k = k ≡ n
+AreDoneAt fault.Store n k = (k ≡ n) ⊎ (k ≡ n + 1)
+AreDoneAt fault.Reopen n k = k ≡ n + 1
+AreDoneAt fault.Damaged n k = ⊥
+AreDoneAt fault.Version n k = ⊥
+
+-- a fault stopped these acts after these answers: one is left that is not answered, and these were done
+pub record AreStopped (acts : List Act) (given : List Answer) (f : Fault) (s : State) (done : List Act) : Type 0 where
+  pub answered : given ≡ answers s (take (length given) acts)
+  pub left : LeavesOne f (length given) acts
+  pub count : ℕ
+  pub counted : AreDoneAt f (length given) count
+  pub are : done ≡ take count acts
 
 -- of these acts a stint did those, from a state, by how it ended
 abbrev pub DidActs : List Act → StintEnd → State → List Act → Type 0
-DidActs acts end.FilesShut s done = done ≡ []
-DidActs acts (end.OfficeShut f) s done = done ≡ []
-DidActs acts (end.Done found) s done = (done ≡ acts) × (found.items ≡ answers s acts)
-DidActs acts (end.Stopped found f) s done = AreAnswered acts found.items s done
+DidActs acts (end.FilesShut e) s done = done ≡ []
+DidActs acts (end.OfficeShut f) s done = (done ≡ []) × StopsOffice s f
+DidActs acts (end.Done given) s done = (done ≡ acts) × (given.items ≡ answers s acts)
+DidActs acts (end.Stopped given f) s done = AreStopped acts given.items f s done
 DidActs acts (end.Resumed answer) s done = ⊥
 DidActs acts (end.Interrupted f) s done = ⊥
 
--- a stint that resumes the open run did these steps; where it is done, no run is open after them
+-- the resumption of the open run was done with these steps: no run is open after them
+pub record IsResumedBy (answer : Answer) (s : State) (done : List Act) : Type 0 where
+  pub steps : AreRunSteps done
+  pub answered : answer ≡ resumed_answer (open_run s.office)
+  pub closed : open_run (after s done).office ≡ None
+
+-- a fault stopped it after some steps: one is left, and these were done
+pub record IsInterrupted (f : Fault) (s : State) (done : List Act) : Type 0 where
+  pub steps : AreRunSteps done
+  pub taken : ℕ
+  pub left : LeavesStep s f taken
+  pub counted : AreDoneAt f taken (length done)
+
+-- a stint that resumes the open run did these steps, from a state, by how it ended
 abbrev pub DidSteps : StintEnd → State → List Act → Type 0
-DidSteps end.FilesShut s done = done ≡ []
-DidSteps (end.OfficeShut f) s done = done ≡ []
-DidSteps (end.Done found) s done = ⊥
-DidSteps (end.Stopped found f) s done = ⊥
-DidSteps (end.Resumed answer) s done =
-    AreRunSteps done × (answer ≡ resumed_answer (open_run s.office)) × (open_run (after s done).office ≡ None)
-DidSteps (end.Interrupted f) s done = AreRunSteps done
+DidSteps (end.FilesShut e) s done = done ≡ []
+DidSteps (end.OfficeShut f) s done = (done ≡ []) × StopsOffice s f
+DidSteps (end.Done given) s done = ⊥
+DidSteps (end.Stopped given f) s done = ⊥
+DidSteps (end.Resumed answer) s done = IsResumedBy answer s done
+DidSteps (end.Interrupted f) s done = IsInterrupted f s done
 
 -- by what was asked
 abbrev pub Did : Task → StintEnd → State → List Act → Type 0

@@ -3,7 +3,9 @@ use Rattle.std.specs.Prelude.{◌≡◌, ◌⊎◌, IsTrue}
 use Rattle.sqlite_disk.specs.declared.Disk.{Ghosts}
 use Rattle.sqlite_store.specs.declared.store.FileStore.{FileStore}
 use Rattle.sqlite_trees.specs.Tree.{Trees}
+use Rattle.sqlite_wal.specs.Files.{outcomes}
 use Rattle.sqlite_wal.specs.Recovery.{Image}
+use Rattle.sqlite.specs.Closing.{files_left}
 use Rattle.sqlite.specs.Files.{HoldsDatabase, IsEmpty, IsNothing, over_files}
 use Rattle.sqlite.specs.State.{State as FileState}
 use Rattle.sqlite.specs.declared.file.Leftover.{Leftover}
@@ -42,6 +44,10 @@ IsNoneAt half_made image = IsNothing image ⊎ ((db : Trees) × HoldsDatabase im
 abbrev pub StandsAt : Stage → Image → State → Type 0
 StandsAt stage image u =
     ((db : Trees) × ContainTables image db × AreTablesAt db u) ⊎ (IsNoneAt stage image × (u ≡ empty_state))
+
+-- what a crash leaves of what is left of the two files
+abbrev pub outcomes_left : {D : Type 0} {g : Ghosts D} → Leftover D g → Image → Type 0
+outcomes_left {g = g} rest = outcomes g (files_left rest).0 (files_left rest).1
 
 -- what is known of files that were not opened
 abbrev pub remains_of : {D : Type 0} {g : Ghosts D} → Leftover D g → Remains

@@ -1,19 +1,37 @@
--- What a stint's report of the files that it left tells, if nothing is known of them; and reports one after another.
--- Source: own.
+-- What the reports of stints tell of the files that each was given and left. Source: own.
 use Rattle.std.specs.Prelude.{◌≡◌, ◌⊎◌, IsTrue, List, [], ◌∷◌, false}
 use Rattle.sqlite_disk.specs.Disk.{MoreFaults}
 use Rattle.sqlite_disk.specs.declared.Disk.{Ghosts}
 use Rattle.sqlite_disk.specs.declared.Files.{Files}
-use Rattle.sqlite_store.specs.FileStore.{faults, files as files_of, recovers, view}
+use Rattle.sqlite_store.specs.FileStore.{faults, recovers, view}
 use Rattle.sqlite_store.specs.declared.store.FileStore.{FileStore}
 use Rattle.sqlite_trees.specs.Tree.{Trees}
 use Rattle.sqlite_wal.specs.Files.{outcomes}
 use Rattle.sqlite_wal.specs.Recovery.{Image}
-use Rattle.sqlite.specs.Files.{HoldsDatabase, IsEmpty, IsNothing, image_of}
+use Rattle.sqlite.specs.Files.{image_of}
+use Rattle.sqlite.specs.declared.error.Error.{Error}
+use Rattle.sqlite.specs.declared.file.Leftover.{Leftover}
+use Rattle.sqlite.specs.declared.file.Leftover.TheVariants as left
+use Rattle.office_rules.specs.State.{State}
+use Rattle.office_life.specs.Life.{Leads}
+use Rattle.office_life.specs.Opening.{AreUnopened}
+use Rattle.office_life.specs.Standing.{Stage, StandsAt, outcomes_left, remains_of}
+use Rattle.office_life.specs.Tables.{AreTablesAt}
 use Rattle.office_life.specs.declared.reports.Remains.{Remains}
 use Rattle.office_life.specs.declared.reports.Remains.TheVariants as remains
 use Rattle.office_life.specs.declared.reports.Report.{Report}
+use Rattle.office_life.specs.declared.reports.StintEnd.{StintEnd}
 use Rattle.office_life.specs.declared.reports.StintEnd.TheVariants as end
+use Rattle.office_life.specs.declared.reports.Task.{Task}
+
+-- the files were opened
+abbrev pub WereOpened : StintEnd → Type 0
+WereOpened (end.FilesShut e) = ⊥
+WereOpened (end.OfficeShut f) = Unit {0}
+WereOpened (end.Done given) = Unit {0}
+WereOpened (end.Stopped given f) = Unit {0}
+WereOpened (end.Resumed answer) = Unit {0}
+WereOpened (end.Interrupted f) = Unit {0}
 
 module _ {D : Type 0} {g : Ghosts D} where
   -- a store that was open was shut, since a call of its disk failed or a limit of the format was met
@@ -22,49 +40,33 @@ module _ {D : Type 0} {g : Ghosts D} where
     pub shut : (view after).is_open ≡ false
     pub failed : MoreFaults (faults before) (faults after)
 
-module _ {D : Type 0} (g : Ghosts D) where
-  -- the opening stopped while it read the tables: over what is left there is a store, and it stands for the tables that the
-  -- files held, or for none if they held no database
-  pub record IsUnread (files now : Files D) : Type 0 where
-    pub store : FileStore D g
-    pub over : (now.log, now.db) ≡ files_of store
-    pub same : (found held : Trees) → recovers store found → HoldsDatabase (image_of g files) held → found ≡ held
-    pub none : (found : Trees) → recovers store found → IsNothing (image_of g files) → IsEmpty found
+  -- a closing left the two files; or it failed and shut the store, which was this before
+  abbrev pub AreClosed : (FileStore D g → Type 0) → Remains → Leftover D g → Type 0
+  AreClosed Was remains.Held (left.Files files) = Unit {0}
+  AreClosed Was remains.Shut (left.Store store) = (before : FileStore D g) × Was before × IsShut before store
+  AreClosed Was remains rest = ⊥
 
-  -- the closing failed: it shut the store over what is left
-  pub record IsUnclosed (now : Files D) : Type 0 where
-    pub before : FileStore D g
-    pub after : FileStore D g
-    pub shut : IsShut before after
-    pub over : (now.log, now.db) ≡ files_of after
+  -- whatever tables a crash leaves of a store, a stint that ended so leads to them from the state for which its files stood
+  abbrev pub IsWorkedOn : Task → StintEnd → Files D → FileStore D g → Type 0
+  IsWorkedOn asked ended files store =
+      (stage : Stage) (s : State) → StandsAt stage (image_of g files) s
+      → (db : Trees) → recovers store db → (u : State) × Leads asked ended s u × AreTablesAt db u
 
-  -- what is said of files that were not opened
-  abbrev pub IsToldUnopened : Remains → Files D → Files D → Type 0
-  IsToldUnopened remains.Held files now = ⊥
-  IsToldUnopened remains.Same files now = Unit {0}
-  IsToldUnopened remains.Begun files now = Unit {0}
-  IsToldUnopened remains.Unread files now = IsUnread files now
-  IsToldUnopened remains.Shut files now = ⊥
+  -- a stint reports so of the files that it was given and of what is left of them: they were not opened, or they were
+  -- closed
+  abbrev pub IsTold : Task → Report → Files D → Leftover D g → Type 0
+  IsTold asked report files rest =
+      ((e : Error) × (report.end ≡ end.FilesShut e) × (report.remains ≡ remains_of rest) × AreUnopened files rest e)
+      ⊎ (WereOpened report.end × AreClosed (IsWorkedOn asked report.end files) report.remains rest)
 
-  -- and of files that were
-  abbrev pub IsToldClosed : Remains → Files D → Type 0
-  IsToldClosed remains.Held now = Unit {0}
-  IsToldClosed remains.Same now = ⊥
-  IsToldClosed remains.Begun now = ⊥
-  IsToldClosed remains.Unread now = ⊥
-  IsToldClosed remains.Shut now = IsUnclosed now
+  -- files that a crash made of what was left
+  abbrev pub IsCrashed : Leftover D g → Files D → Type 0
+  IsCrashed rest later = (image : Image) → outcomes g later.log later.db image → outcomes_left rest image
 
-  -- a stint reports so of the files that it was given and of those that it left
-  abbrev pub IsTold : Report → Files D → Files D → Type 0
-  IsTold it files now =
-      ((it.end ≡ end.FilesShut) × IsToldUnopened it.remains files now) ⊎ IsToldClosed it.remains now
-
-  -- files that a crash made of others
-  abbrev pub IsCrashed : Files D → Files D → Type 0
-  IsCrashed now later = (image : Image) → outcomes g later.log later.db image → outcomes g now.log now.db image
-
-  -- one after another, each on what a crash made of the files that the one before left
-  abbrev pub AreTold : Files D → List Report → Files D → Type 0
-  AreTold files [] last = last ≡ files
-  AreTold files (it ∷ rest) last =
-      (now later : Files D) × IsTold it files now × IsCrashed now later × AreTold later rest last
+-- one after another, each on what a crash made of the files that the one before left
+abbrev pub AreTold : {D : Type 0} (g : Ghosts D) → Files D → List Task → List Report → Files D → Type 0
+AreTold g files [] [] last = last ≡ files
+AreTold {D} g files (asked ∷ tasks) (report ∷ reports) last =
+    (rest : Leftover D g) × (later : Files D) × IsTold asked report files rest × IsCrashed rest later
+    × AreTold g later tasks reports last
+AreTold g files tasks reports last = ⊥

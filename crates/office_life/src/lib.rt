@@ -8,6 +8,7 @@
 #![tactic(auto)]
 
 mod closing;
+mod finding;
 mod fuses;
 mod life;
 mod opening;
@@ -15,7 +16,10 @@ mod reports;
 mod stints;
 mod work;
 
+pub use closing::close;
+pub use finding::{FindStop, find, law_of_openings};
 pub use fuses::{Fuses, law_of_honest_disks};
-pub use life::{find, live, live_and_find};
+pub use life::{crash, live, live_and_find};
+pub use opening::{open, remains_by};
 pub use reports::{Remains, Report, StintEnd, Task};
 pub use stints::stint;

@@ -2,34 +2,32 @@
 ghost use Rattle.std.specs.Prelude.{IfOk, IfSome, IsTrue};
 ghost use Rattle.sqlite_wal.specs.Files.{outcomes};
 ghost use Rattle.sqlite_wal.specs.Recovery.{Image};
-ghost use Rattle.sqlite.specs.Files.{image_of, over_files};
-ghost use Rattle.office_rules.specs.State.{State};
-ghost use Rattle.office_desk.specs.Leaving.{IsAt};
 ghost use Rattle.office_life.specs.Life.{AreKnownFrom, IsAfterLife, LeadsOn, stage_at_end};
-ghost use Rattle.office_life.specs.Standing.{FilesLead, FindsLed, NeverLies, Stage, StandsAt};
+ghost use Rattle.office_life.specs.Standing.{FilesLead, FindsLed, NeverLies, Stage, outcomes_left};
 ghost use Rattle.office_life.specs.Told.{AreTold};
 
-use crate::opening::open;
+use crate::finding::find;
 use crate::reports::{Report, Task};
 use crate::stints::stint;
 use office_desk::Desk;
 use office_desk::fates::law_of_fates;
 use office_rules::laws::resumption::law_of_resumption;
 use office_rules::laws::soundness::law_of_soundness;
-use office_store::laws::law_of_one_database;
-use sqlite::{FileStore, Files};
+use sqlite::{FileStore, Files, Leftover};
 use sqlite_disk::{Crash, Disk};
 use std::alloc::{AllocError, Global};
 
-/// The machine crashes, and comes back.
-fn crash<D: Crash>(files: &mut Files<D>)
-    ensures log { IsTrue (D.Disk.is_usable files.new.log) }
-    ensures db { IsTrue (D.Disk.is_usable files.new.db) }
-    ensures fewer { (image : Image) → outcomes D.Disk files.new.log files.new.db image
-        → outcomes D.Disk files.old.log files.old.db image }
+/// Lets the machine crash and come back, with what is left of two files.
+pub fn crash<D: Crash>(rest: Leftover<D>) -> Files<D>
+    ensures log { IsTrue (D.Disk.is_usable result.log) }
+    ensures db { IsTrue (D.Disk.is_usable result.db) }
+    ensures fewer { (image : Image) → outcomes D.Disk result.log result.db image
+        → outcomes_left rest image }
 {
+    let mut files = rest.into_files();
     files.log.crash();
     files.db.crash();
+    files
 }
 
 /// Runs stints over two files, each ended by a crash.
@@ -46,13 +44,12 @@ fn run<D: Crash + Drop>(
         → AreKnownFrom stage r.0.items
         → FilesLead stage (stage_at_end stage r.0.items) (LeadsOn tasks.now r.0.items)
         (outcomes D.Disk files.log files.db) (outcomes D.Disk r.1.log r.1.db)) }
-    ensures told { NeverLies D.Disk → IfOk result (λ r. AreTold D.Disk files r.0.items r.1) }
+    ensures told { NeverLies D.Disk → IfOk result (λ r. AreTold D.Disk files tasks.now r.0.items r.1) }
 {
     let mut reports = Vec::new(alloc);
     for task in tasks {
-        let (report, mut left) = stint(alloc, files, task);
-        crash(&mut left);
-        files = left;
+        let (report, rest) = stint(alloc, files, task);
+        files = crash(rest);
         reports.push(report)?;
     }
     Ok((reports, files))
@@ -76,29 +73,12 @@ pub fn live<D: Crash + Drop>(
         → AreKnownFrom stage r.0.items
         → FilesLead stage (stage_at_end stage r.0.items) (IsAfterLife tasks.now r.0.items)
         (outcomes D.Disk files.log files.db) (outcomes D.Disk r.1.log r.1.db)) }
-    ensures told { NeverLies D.Disk → IfOk result (λ r. AreTold D.Disk files r.0.items r.1) }
+    ensures told { NeverLies D.Disk → IfOk result (λ r. AreTold D.Disk files tasks.now r.0.items r.1) }
 {
     law_of_soundness();
     law_of_fates();
     law_of_resumption();
     run(alloc, files, tasks)
-}
-
-/// The office in two files, if it is opened: it is at the state for which the files stood.
-pub fn find<D: Disk + Drop>(alloc: Global, files: Files<D>) -> Option<Desk<FileStore<D>>>
-    requires log { IsTrue (D.Disk.is_usable files.log) }
-    requires db { IsTrue (D.Disk.is_usable files.db) }
-    ensures { NeverLies D.Disk → IfSome result (λ desk. (stage : Stage) (s : State)
-        → StandsAt stage (image_of D.Disk files) s → IsAt over_files s desk) }
-{
-    law_of_one_database();
-    let Ok(conn) = open(alloc, files) else {
-        return None;
-    };
-    match Desk::open(alloc, conn) {
-        Ok(desk) => Some(desk),
-        Err(_) => None,
-    }
 }
 
 /// A life of an office, and the office that is opened at its end, if it is: it is at the state after
@@ -116,6 +96,8 @@ pub fn live_and_find<D: Crash + Drop>(
         (outcomes D.Disk files.log files.db))) }
 {
     let (reports, left) = live(alloc, files, tasks)?;
-    let found = find(alloc, left);
-    Ok((reports, found))
+    match find(alloc, left) {
+        Ok(desk) => Ok((reports, Some(desk))),
+        Err(_) => Ok((reports, None)),
+    }
 }

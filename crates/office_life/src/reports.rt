@@ -2,6 +2,7 @@
 
 use office_rules::{Act, Answer};
 use office_store::Fault;
+use sqlite::Error;
 
 /// What is asked of an office in one stint.
 #[derive(Drop)]
@@ -15,8 +16,8 @@ pub enum Task {
 /// How a stint ended.
 #[derive(Drop)]
 pub enum StintEnd {
-    /// The files were not opened.
-    FilesShut,
+    /// The files were not opened, by this error.
+    FilesShut(Error),
     /// The office in them was not opened.
     OfficeShut(Fault),
     /// All acts were done, with these answers.

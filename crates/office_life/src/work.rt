@@ -6,6 +6,7 @@ ghost use Rattle.office_rules.specs.State.{State};
 ghost use Rattle.office_desk.specs.Leaving.{IsAt};
 ghost use Rattle.office_life.specs.Life.{DidActs, DidSteps, Leads, LeadsBy};
 ghost use Rattle.office_life.specs.Standing.{LeavesAt, RestsAt};
+ghost use Rattle.office_life.specs.Told.{WereOpened};
 
 use crate::reports::{StintEnd, Task};
 use office_desk::Desk;
@@ -17,6 +18,7 @@ use std::alloc::Global;
 
 /// Does acts at a desk, and closes it.
 fn act_on<S: Alter>(alloc: Global, mut desk: Desk<S>, acts: &[Act]) -> (StintEnd, Connection<S>)
+    ensures opened { WereOpened result.0 }
     ensures clean { HasCleanDisk (state S.Store result.1) → HasCleanDisk (state S.Store desk.connection) }
     ensures left { HasCleanDisk (state S.Store result.1) → (s : State) → IsAt S.Store s desk
         → LeavesAt (LeadsBy (DidActs acts.now result.0) s) (state S.Store result.1) }
@@ -31,6 +33,7 @@ fn act_on<S: Alter>(alloc: Global, mut desk: Desk<S>, acts: &[Act]) -> (StintEnd
 
 /// Resumes the open run at a desk, and closes it.
 fn resume_on<S: Alter>(mut desk: Desk<S>) -> (StintEnd, Connection<S>)
+    ensures opened { WereOpened result.0 }
     ensures clean { HasCleanDisk (state S.Store result.1) → HasCleanDisk (state S.Store desk.connection) }
     ensures left { HasCleanDisk (state S.Store result.1) → (s : State) → IsAt S.Store s desk
         → LeavesAt (LeadsBy (DidSteps result.0) s) (state S.Store result.1) }
@@ -45,6 +48,7 @@ fn resume_on<S: Alter>(mut desk: Desk<S>) -> (StintEnd, Connection<S>)
 
 /// Does at a desk what is asked, and closes it.
 fn work_on<S: Alter>(alloc: Global, desk: Desk<S>, task: &Task) -> (StintEnd, Connection<S>)
+    ensures opened { WereOpened result.0 }
     ensures clean { HasCleanDisk (state S.Store result.1) → HasCleanDisk (state S.Store desk.connection) }
     ensures left { HasCleanDisk (state S.Store result.1) → (s : State) → IsAt S.Store s desk
         → LeavesAt (Leads task.now result.0 s) (state S.Store result.1) }
@@ -62,7 +66,8 @@ pub(crate) fn work_at<S: Alter>(
     task: &Task,
 ) -> (StintEnd, Connection<S>)
     requires { conn.in_transaction ≡ false }
-    ensures { HasCleanDisk (state S.Store result.1) → (s : State)
+    ensures opened { WereOpened result.0 }
+    ensures left { HasCleanDisk (state S.Store result.1) → (s : State)
         → RestsAt (state S.Store conn) s
         → LeavesAt (Leads task.now result.0 s) (state S.Store result.1) }
 {

@@ -6,7 +6,7 @@ use crate::life_rows::{Row, answers_of, row_of, tasks_of, words_of};
 use crate::outcomes::{Outcomes, is_whole, push_end};
 use crate::selections::all_selected;
 use office_desk::Desk;
-use office_life::{Remains, Report, Task, find, live};
+use office_life::{FindStop, Remains, Report, Task, find, live};
 use sqlite::{Alter, Files};
 use sqlite_disk::{Crash, Disk};
 use std::alloc::Global;
@@ -71,14 +71,22 @@ fn tables_behind<S: Alter + Drop>(alloc: Global, desk: Desk<S>) -> Result<String
     all_selected(alloc, &mut conn)
 }
 
+/// Says why no office is found.
+fn unfound<D: Disk>(stop: &FindStop<D>) -> Fail {
+    match stop {
+        FindStop::Files(error, _) => Fail::new(format_args!("no office is found: {error:?}")),
+        FindStop::Office(fault, _) => Fail::new(format_args!("no office is found: {fault:?}")),
+    }
+}
+
 /// Finds the office in files, and reads its tables.
 fn found<D: Disk + Drop>(alloc: Global, files: Files<D>) -> Result<String, Fail> {
     if !files.may_be_used() {
         return Err(Fail::new("files that may not be used"));
     }
     match find(alloc, files) {
-        Some(desk) => tables_behind(alloc, desk),
-        None => Err(Fail::new("no office is found")),
+        Ok(desk) => tables_behind(alloc, desk),
+        Err(stop) => Err(unfound(&stop)),
     }
 }
 

@@ -228,7 +228,7 @@ fn firsts_of(alloc: Global, words: &str, least: usize, most: usize) -> Result<Ve
 fn choices_of(alloc: Global, words: &str, end: &StintEnd) -> Result<Vec<String>, Fail> {
     let all = words.split(" & ").count();
     match end {
-        StintEnd::FilesShut | StintEnd::OfficeShut(_) => firsts_of(alloc, words, 0, 0),
+        StintEnd::FilesShut(_) | StintEnd::OfficeShut(_) => firsts_of(alloc, words, 0, 0),
         StintEnd::Done(_) | StintEnd::Resumed(_) => firsts_of(alloc, words, all, all),
         StintEnd::Stopped(found, _) => {
             let answered = found.len();
@@ -259,7 +259,7 @@ pub(crate) fn push_end(alloc: Global, text: &mut String, end: &StintEnd) -> Resu
             push_answers(alloc, text, found.as_slice())
         }
         StintEnd::Resumed(answer) => push_answer(alloc, text, answer),
-        StintEnd::FilesShut | StintEnd::OfficeShut(_) | StintEnd::Interrupted(_) => Ok(()),
+        StintEnd::FilesShut(_) | StintEnd::OfficeShut(_) | StintEnd::Interrupted(_) => Ok(()),
     }
 }
 

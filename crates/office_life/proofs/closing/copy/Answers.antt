@@ -1,4 +1,4 @@
-use Rattle.std.proofs.Common.{◌≡◌, ◌∙◌, inr, inl, Bool, true, false, ◌||◌, not, IsTrue, refl, sym, ap}
+use Rattle.std.proofs.Common.{◌≡◌, ◌∙◌, inl, inr, Bool, true, false, ◌||◌, not, IsTrue, refl, sym, ap}
 use Rattle.sqlite_store.specs.FileStore.{view}
 use Rattle.sqlite_trees.specs.View.{View}
 use Rattle.office_life.proofs.LeftTables.{never_dirty}
@@ -17,31 +17,36 @@ closed_if_broken false never = refl
 is_shut : (is_open : Bool) → is_open ≡ false → IsTrue is_open → ⊥
 is_shut is_open shut on = cc
 
-pub returns-then-is_broken-2-clause-told : goal.returns-then-is_broken-2-clause-told
-returns-then-is_broken-2-clause-told g c never =
+broken_if_not : (b : Bool) → not b ≡ false → b ≡ true
+broken_if_not true is = refl
+broken_if_not false is = cc
+
+whole_if_not : (b : Bool) → IsTrue (not b) → b ≡ false
+whole_if_not true is = cc
+whole_if_not false is = refl
+
+pub returns-in-Err-clause-shut : goal.returns-in-Err-clause-shut
+returns-in-Err-clause-shut g c never is =
     let was = c.args.store.now in
     let last = c.checkpoint.new.self in
     let clean = never_dirty never last in
     let whole : (view was).is_broken ≡ false = sym (c.is_broken.ensures.shown (never_dirty never was)) ∙ c.if-is_broken.false in
-    let broken : (view last).is_broken ≡ true = sym (c.is_broken-in-Err.ensures.shown clean) ∙ c.if-is_broken-2.true in
+    let broken : (view last).is_broken ≡ true = sym (c.is_broken-in-Err.ensures.shown clean) ∙ broken_if_not _ is in
     let was_open = open_if_whole was.has_failed (view was).is_open whole in
     let shut : (view last).is_open ≡ false = closed_if_broken (view last).is_open (λ on. let same = ap (λ (v : View). v.is_broken) (c.checkpoint.ensures.same on) in let no : true ≡ false = sym broken ∙ same ∙ whole in cc) in
-    inr (
-      refl,
-      record {
-        was_open = was_open;
-        shut = shut;
-        failed = elim (c.checkpoint.ensures.quiet.closes clean was_open) [ inl on ↦ absurd (is_shut (view last).is_open shut on) | inr more ↦ more ];
-      },
-    )
+    record {
+      was_open = was_open;
+      shut = shut;
+      failed = elim (c.checkpoint.ensures.quiet.closes clean was_open) [ inl on ↦ absurd (is_shut (view last).is_open shut on) | inr more ↦ more ];
+    }
 
 pub returns-in-Ok-clause-numbered : goal.returns-in-Ok-clause-numbered
 returns-in-Ok-clause-numbered g c never held numbered =
     let on = c.in-Ok.ensures.open (never_dirty never c.checkpoint.new.self) in
     ap (λ (v : View). v.is_numbered) (c.checkpoint.ensures.same on) ∙ numbered
 
-pub returns-else-is_broken-2-clause-numbered : goal.returns-else-is_broken-2-clause-numbered
-returns-else-is_broken-2-clause-numbered g c never held numbered =
+pub returns-in-Err-clause-numbered : goal.returns-in-Err-clause-numbered
+returns-in-Err-clause-numbered g c never held numbered =
     let last = c.checkpoint.new.self in
-    let whole : (view last).is_broken ≡ false = sym (c.is_broken-in-Err.ensures.shown (never_dirty never last)) ∙ c.if-is_broken-2.false in
+    let whole : (view last).is_broken ≡ false = sym (c.is_broken-in-Err.ensures.shown (never_dirty never last)) ∙ whole_if_not _ held in
     ap (λ (v : View). v.is_numbered) (c.checkpoint.ensures.same (open_if_whole last.has_failed (view last).is_open whole)) ∙ numbered

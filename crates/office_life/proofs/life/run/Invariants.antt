@@ -11,5 +11,5 @@ invariant-loop-task g l = record {
   db : IsTrue (g.D.Disk.is_usable l.files.db);
   led : NeverLies g.D.Disk → (stage : Stage) → AreKnownFrom stage l.reports.items
       → FilesLead stage (stage_at_end stage l.reports.items) (LeadsOn (take l.task-index l.tasks) l.reports.items) (outcomes g.D.Disk l.fn.files.log l.fn.files.db) (outcomes g.D.Disk l.files.log l.files.db);
-  told : NeverLies g.D.Disk → AreTold g.D.Disk l.fn.files l.reports.items l.files;
+  told : NeverLies g.D.Disk → AreTold g.D.Disk l.fn.files (take l.task-index l.tasks) l.reports.items l.files;
 }

@@ -1,14 +1,16 @@
 use Rattle.sqlite.specs.Held.{state}
 use Rattle.office_life.proofs.DeskWork.{found_at, unopened_at}
 use Rattle.office_life.proofs.Leading.{did_nothing}
+use Rattle.office_life.proofs.Openings.{not_refused}
 use Rattle.office_life.proofs.work.work_at.Goals as goal
 
-pub returns-in-Ok : goal.returns-in-Ok
-returns-in-Ok g c clean s rests =
+pub returns-in-Ok-clause-left : goal.returns-in-Ok-clause-left
+returns-in-Ok-clause-left g c clean s rests =
     let finds = c.in-Ok.ensures.ok.finds (c.work_on.ensures.clean clean) in
     c.work_on.ensures.left clean s (found_at c.law_of_one_database.ensures.one s g.S.Store c.args.conn c.in-Ok.desk finds rests)
 
-pub returns-in-Err : goal.returns-in-Err
-returns-in-Err g c clean s rests db may =
+pub returns-in-Err-clause-left : goal.returns-in-Err-clause-left
+returns-in-Err-clause-left g c clean s rests db may =
     let fault = c.in-Err.fault in
-    (s, did_nothing c.args.task.now fault s, unopened_at c.law_of_one_database.ensures.one c.law_of_soundness.ensures.empty s (state g.S.Store c.args.conn) (state g.S.Store c.in-Err.conn) fault rests (c.in-Err.ensures.err.left clean) db may)
+    let why = not_refused g.S.Store c.args.conn c.in-Err.conn s rests clean fault c.in-Err.ensures.err in
+    (s, did_nothing c.args.task.now fault s why, unopened_at c.law_of_one_database.ensures.one c.law_of_soundness.ensures.empty s (state g.S.Store c.args.conn) (state g.S.Store c.in-Err.conn) fault rests (c.in-Err.ensures.err.left clean) db may)
