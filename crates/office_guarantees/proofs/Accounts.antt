@@ -71,7 +71,7 @@ module _ (stay : StaySound) (last : CertificatesLast) where
   printed_last s u run file text written after (inr (inl (None, is, (says, silent)), same)) = let no : how.Done ≡ how.Refused refused.NoSuch = says in absurd cc
   printed_last s u run file text written after (inr (inl (Some body, is, inl (out, done)), same)) = (body, out, ap (λ (x : State). get x.office.certificates run) same ∙ is)
   printed_last s u run file text written after (inr (inl (Some body, is, inr (some, failed)), same)) = let no : how.Done ≡ how.File = failed in absurd cc
-  printed_last s u run file text written after (inr (inr (says, silent), same)) = let no : how.Done ≡ how.Fault fault.Memory = says in absurd cc
+  printed_last s u run file text written after (inr (inr (says, rest), same)) = let no : how.Done ≡ how.Fault fault.Memory = says in absurd cc
 
   module _ (s : State) (sound : IsSound s) (run : ℕ) (file text : List ℕ) (written after : Option (List ℕ)) where
     abbrev printing : ProgramRun
@@ -83,7 +83,7 @@ module _ (stay : StaySound) (last : CertificatesLast) where
 
     printed_at : (runs : List ProgramRun) (done : List Act) → AreWellFormed done → ActsOfRuns s runs done → (n : ℕ) → numbered runs n ≡ Some printing → IsPrintedAt s done run written after
     printed_at runs done formed (no_run) n there = absurd (none_there n there)
-    printed_at runs done formed (one_run before now first more of left) n there =
+    printed_at runs done formed (one_run before now first more of are left) n there =
         let both = formed_both first more formed in
         elim (numbered_push before now printing n there) [
           | inl was ↦
