@@ -125,8 +125,8 @@ module _ (stay : StaySound) (ends : IsEnded) (At : Trees → State → Type 0) (
     request_served (requested (path.Record None)) served = as_it_was t d served.1
     request_served (requested (path.Record (Some r))) served = as_it_was t d served.1
     request_served (requested (path.Content None)) served = as_it_was t d served.1
-    request_served (requested (path.Content (Some r))) (Ok content, reported, it) = as_it_was t d it.ends.represents
-    request_served (requested (path.Content (Some r))) (Err f, reported, it) = unread_served r f it
+    request_served (requested (path.Content (Some r))) (Ok content, reported, it, there) = as_it_was t d it.ends.represents
+    request_served (requested (path.Content (Some r))) (Err f, reported, it, there) = unread_served r f it
     request_served (requested (path.Due None)) served = as_it_was t d served.1
     request_served (requested (path.Due (Some day))) served = as_it_was t d served.1
     request_served (requested (path.Overdue None count)) served = as_it_was t d served.1

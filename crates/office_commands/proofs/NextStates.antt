@@ -41,12 +41,13 @@ use Rattle.office_command_line.specs.declared.register.Register.TheVariants as r
 use Rattle.office_commands.specs.Applying.{Applies, IsUnread, Performs}
 use Rattle.office_commands.specs.Certifying.{CertificateEnds, Certifies, IsCertificate}
 use Rattle.office_commands.specs.Exporting.{ExportEnds, Exports, IsRegister, IsRegisterText}
+use Rattle.office_wire.specs.Answering.{HasCertificate}
 use Rattle.office_wire.specs.Exporting.{IsSomeOut}
 use Rattle.office_wire.specs.declared.record_import.ImportStop.{ImportStop}
 use Rattle.office_wire.specs.declared.record_import.ImportStop.TheVariants as import
 use Rattle.office_commands.specs.Importing.{AreImported, ImportsAt, IsRowCut, exit_of_import}
 use Rattle.office_life.specs.Tables.{IsOfficeAt}
-use Rattle.office_commands.specs.NextCommand.{AreActsDone, AreRowsAdded, IsAfterActs, IsFaultAlone, IsLeftBy, IsNotApplied, IsNotImported, IsRunResumed, IsUntouched, IsVersionReported, LeavesAt, ReadsAt, SaysAll}
+use Rattle.office_commands.specs.NextCommand.{AreActsDone, AreRowsAdded, IsAfterActs, IsEndOfRows, IsFaultAlone, IsLeftBy, IsNotApplied, IsNotImported, IsRunResumed, IsUntouched, IsVersionReported, LeavesAt, ReadsAt, SaysAll}
 use Rattle.office_commands.specs.Calling.{Reports}
 use Rattle.office_commands.specs.ExitStatuses.{exit_of_acts}
 use Rattle.office_commands.specs.Opening.{EndsOpenFailed, FromOpened, IsOpened, IsRestKept, OfficeOpenFailed}
@@ -202,7 +203,7 @@ module _ (stay : StaySound) (ends : IsEnded) (At : Trees → State → Type 0) (
 
   certifies_at : (run : ℕ) (written after : Option (List ℕ)) (exit : Exit) → Certifies (FromOpened old new) run written after exit → Certifies (λ Is. Is s) run written after exit
   certifies_at run written after exit (inl (text, at, reported)) = inl (text, of_opened (IsCertificate run text) at, reported)
-  certifies_at run written after exit (inr none) = inr none
+  certifies_at run written after exit (inr (is, silent, there)) = inr (is, silent, of_opened (λ t. HasCertificate t run) there)
 
   certificate_left : (run : ℕ) (written after : Option (List ℕ)) (exit : Exit) → CertificateEnds run old new written after exit → LeavesSo (ReadsAt (Certifies (λ Is. Is s) run written after exit) written after exit s)
   certificate_left run written after exit (inl none) = fault_left (ReadsAt (Certifies (λ Is. Is s) run written after exit) written after exit s) written after exit (λ alone. inl alone) none
@@ -250,8 +251,8 @@ module _ (stay : StaySound) (ends : IsEnded) (At : Trees → State → Type 0) (
     RowsLeft exit u = IsUntouched written after s u × IsNotImported text exit ⊎ AreRowsAdded day text written after exit s u
 
     -- rows were added, and no more
-    added : (exit : Exit) (fs : List Fields) (reported : List Answer) (u : State) → (SaysAll exit → AreAllRows text fs) → ArePrefixRows text fs → AreRowsDone day s fs reported u → Appends written after (lines_from 0 reported) ⊎ (exit ≡ how.File) × AreLinesOut reported written after → ContainsRows (rows_of u) new → LeavesSo (RowsLeft exit)
-    added exit fs reported u whole prefix done lines holds db may = (
+    added : (exit : Exit) (ended : Result ℕ ImportStop) → exit ≡ exit_of_import ended → (fs : List Fields) (reported : List Answer) (u : State) → IsEndOfRows fs reported ended → (SaysAll exit → AreAllRows text fs) → ArePrefixRows text fs → AreRowsDone day s fs reported u → Appends written after (lines_from 0 reported) ⊎ (exit ≡ how.File) × AreLinesOut reported written after → ContainsRows (rows_of u) new → LeavesSo (RowsLeft exit)
+    added exit ended is fs reported u why whole prefix done lines holds db may = (
       u,
       inr (record {
         rows = fs;
@@ -261,13 +262,16 @@ module _ (stay : StaySound) (ends : IsEnded) (At : Trees → State → Type 0) (
         done = done;
         answered = lines;
         state = inl refl;
+        ended = ended;
+        reported = is;
+        why = why;
         all = λ says. (whole says, refl);
       }),
       has_rows u (sound_rows stay day s u fs reported done sound) holds db may,
     )
 
-    cut_row : (exit : Exit) (fs : List Fields) (reported : List Answer) (u : State) (row : Fields) (f : Fault) → (SaysAll exit → ⊥) → AreSomeRows text (fs ++ row ∷ []) → AreRowsDone day s fs reported u → Appends written after (lines_from 0 reported) → IsRowCut day u row f new → LeavesSo (RowsLeft exit)
-    cut_row exit fs reported u row f not_all some done lines (inl it) db may = (
+    cut_row : (exit : Exit) (fs : List Fields) (reported : List Answer) (u : State) (row : Fields) (f : Fault) → exit ≡ how.Fault f → (SaysAll exit → ⊥) → AreSomeRows text (fs ++ row ∷ []) → AreRowsDone day s fs reported u → Appends written after (lines_from 0 reported) → IsRowCut day u row f new → LeavesSo (RowsLeft exit)
+    cut_row exit fs reported u row f says not_all some done lines (inl it) db may = (
       u,
       inr (record {
         rows = fs;
@@ -277,11 +281,14 @@ module _ (stay : StaySound) (ends : IsEnded) (At : Trees → State → Type 0) (
         done = done;
         answered = inl lines;
         state = inl refl;
-        all = λ says. absurd (not_all says);
+        ended = Err (import.Fault f);
+        reported = says;
+        why = tt;
+        all = λ all. absurd (not_all all);
       }),
       has_rows u (sound_rows stay day s u fs reported done sound) it.1 db may,
     )
-    cut_row exit fs reported u row f not_all some done lines (inr (a, is, formed, left)) db may =
+    cut_row exit fs reported u row f says not_all some done lines (inr (a, is, formed, left)) db may =
         let sound_u = sound_rows stay day s u fs reported done sound in
         elim (has_stopped u (step u a).1 f sound_u (stay u a sound_u formed) left db may) [
           | inl here ↦ (
@@ -294,7 +301,10 @@ module _ (stay : StaySound) (ends : IsEnded) (At : Trees → State → Type 0) (
               done = done;
               answered = inl lines;
               state = inl refl;
-              all = λ says. absurd (not_all says);
+              ended = Err (import.Fault f);
+              reported = says;
+              why = tt;
+              all = λ all. absurd (not_all all);
             }),
             here,
           )
@@ -308,19 +318,22 @@ module _ (stay : StaySound) (ends : IsEnded) (At : Trees → State → Type 0) (
               done = done;
               answered = inl lines;
               state = inr (row, (step u a).0, some, (rw is (formed, refl, refl)));
-              all = λ says. absurd (not_all says);
+              ended = Err (import.Fault f);
+              reported = says;
+              why = tt;
+              all = λ all. absurd (not_all all);
             }),
             next,
           )
         ]
 
     imports_left : (exit : Exit) (done : Result ℕ ImportStop) → exit ≡ exit_of_import done → AreImported day text done new written after s → LeavesSo (RowsLeft exit)
-    imports_left exit (Ok refused) is (fs, reported, u, (r, left, first, ended), it, none) = added exit fs reported u (λ says. (r, left, first, ended)) (inr (r, left, first)) it.done (inl it.reported) it.saved
+    imports_left exit (Ok refused) is (fs, reported, u, (r, left, first, ended), it, none) = added exit (Ok refused) is fs reported u none (λ says. (r, left, first, ended)) (inr (r, left, first)) it.done (inl it.reported) it.saved
     imports_left exit (Err import.Header) is it = untouched (RowsLeft exit) written after (λ same. inl (same, inr (is, it.0))) it.2 (has_rows s sound it.1)
-    imports_left exit (Err (import.Row number)) is (fs, reported, u, (r, left, first, bad), it, at) = added exit fs reported u (λ says. absurd (row_not_all number exit is says)) (inr (r, left, first)) it.done (inl it.reported) it.saved
-    imports_left exit (Err (import.Fault f)) is (fs, reported, u, done, lines, inl it) = added exit fs reported u (λ says. absurd (fault_not_all f exit is says)) it.1 done (inl lines) it.2
-    imports_left exit (Err (import.Fault f)) is (fs, reported, u, done, lines, inr it) = cut_row exit fs reported u it.0 f (fault_not_all f exit is) it.1 done lines it.2
-    imports_left exit (Err import.Io) is (fs, reported, u, prefix, done, holds, out) = added exit fs reported u (λ says. absurd (file_not_all exit is says)) prefix done (inr (is, out)) holds
+    imports_left exit (Err (import.Row number)) is (fs, reported, u, (r, left, first, bad), it, at) = added exit (Err (import.Row number)) is fs reported u at (λ says. absurd (row_not_all number exit is says)) (inr (r, left, first)) it.done (inl it.reported) it.saved
+    imports_left exit (Err (import.Fault f)) is (fs, reported, u, done, lines, inl it) = added exit (Err (import.Fault f)) is fs reported u tt (λ says. absurd (fault_not_all f exit is says)) it.1 done (inl lines) it.2
+    imports_left exit (Err (import.Fault f)) is (fs, reported, u, done, lines, inr it) = cut_row exit fs reported u it.0 f is (fault_not_all f exit is) it.1 done lines it.2
+    imports_left exit (Err import.Io) is (fs, reported, u, prefix, done, holds, out) = added exit (Err import.Io) is fs reported u tt (λ says. absurd (file_not_all exit is says)) prefix done (inr (is, out)) holds
 
     import_left : (exit : Exit) → EndsOpenFailed old new written after exit ⊎ ImportsAt (FromOpened old new) day text new written after exit → LeavesSo (RowsLeft exit)
     import_left exit (inl none) = fault_left (RowsLeft exit) written after exit (λ alone. inl (alone.untouched, inl (alone.fault, alone.reported))) none

@@ -1,5 +1,5 @@
--- Runs of the program over an office's files, one after another, from no file on, and the states at which they leave the
--- office. Source: own.
+-- Runs of the program over an office's files, one after another, from no file on, and the states at which they leave
+-- the office. Source: own.
 use Rattle.std.specs.Prelude.{◌≡◌, ◌⊎◌, ℕ, IsTrue, List, [], ◌∷◌, ◌++◌, Option, None, Some}
 use Rattle.sqlite_disk.specs.declared.Disk.{Ghosts}
 use Rattle.sqlite_store.specs.FileStore.{state as store_state, view}
@@ -24,6 +24,7 @@ use Rattle.office_life.specs.Standing.{IsKnownAt, Stage, StandsAt, remains_of, s
 use Rattle.office_life.specs.declared.reports.Remains.{Remains}
 use Rattle.office_life.specs.declared.reports.Remains.TheVariants as remains
 use Rattle.office_command_line.specs.Orders.{Command}
+use Rattle.office_commands.specs.CommandActs.{AreActsOf}
 use Rattle.office_commands.specs.Files.{EndsOver, RunsInFiles, ServesInFiles}
 use Rattle.office_commands.specs.NextCommand.{IsLeftBy, IsServedTo}
 use Rattle.office_commands.specs.OpenResult.{OpenResult}
@@ -126,11 +127,17 @@ pub data StateHistory (s : State) : List ProgramRun → State → Type 0 where
   led : (runs : List ProgramRun) (run : ProgramRun) (t u : State) → StateHistory s runs t → IsLeftAt run t u
       → StateHistory s (runs ++ run ∷ []) u
 
--- the runs did these acts in all, in their order: each left the office after those that it did
+-- the acts are those of a run; a service did some
+abbrev pub AreActsOfRun : ProgramRun → List Act → Type 0
+AreActsOfRun (ran_command order text written after exit) done = AreActsOf order text done
+AreActsOfRun (ran_service port count written after exit) done = Unit {0}
+
+-- the runs did these acts in all, in their order: each did acts of its own, and left the office after them
 pub data ActsOfRuns (s : State) : List ProgramRun → List Act → Type 0 where
   no_run : ActsOfRuns s [] []
   one_run : (runs : List ProgramRun) (run : ProgramRun) (done more : List Act) → ActsOfRuns s runs done
-      → IsLeftAt run (after s done) (after s (done ++ more)) → ActsOfRuns s (runs ++ run ∷ []) (done ++ more)
+      → AreActsOfRun run more → IsLeftAt run (after s done) (after s (done ++ more))
+      → ActsOfRuns s (runs ++ run ∷ []) (done ++ more)
 
 -- such runs did acts, and these report the contents of the office
 abbrev pub ReportsContents : Type 0

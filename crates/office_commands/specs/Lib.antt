@@ -1,6 +1,7 @@
 pub mod Applying
 pub mod Calling
 pub mod Certifying
+pub mod CommandActs
 pub mod Damage
 pub mod ExitStatuses
 pub mod Exporting

@@ -1,6 +1,6 @@
 -- From one command of the program to the next: at which state a command leaves an office, and what its two files hold
 -- then. Source: own.
-use Rattle.std.specs.Prelude.{◌≡◌, ◌⊎◌, ◌+◌, ◌≤◌, ℕ, ℤ, IfSome, IsTrue, List, [], ◌∷◌, ◌++◌, length, take, Option, Ok, Err, Some, option_map}
+use Rattle.std.specs.Prelude.{◌≡◌, ◌⊎◌, ◌+◌, ◌≤◌, ℕ, ℤ, IfSome, IsTrue, List, [], ◌∷◌, ◌++◌, length, take, Option, Ok, Err, Some, option_map, Result}
 use Rattle.std.specs.Io.KnownBytes.{Appends}
 use Rattle.csv.specs.Reading.{strip_bom}
 use Rattle.csv.specs.declared.parser.State.TheVariants.{StartRecord}
@@ -33,12 +33,15 @@ use Rattle.office_json.specs.Answers.{answer_lines}
 use Rattle.office_json.specs.Lists.{NoActs, acts_in}
 use Rattle.office_csv.specs.ImportRows.{Fields}
 use Rattle.office_csv.specs.ImportText.{LacksHeader}
-use Rattle.office_wire.specs.Importing.{AreAllRows, AreLinesOut, ArePrefixRows, AreRowsDone, AreSomeRows, IsRowDone, lines_from}
+use Rattle.office_wire.specs.Importing.{AreAllRows, AreLinesOut, ArePrefixRows, AreRowsDone, AreSomeRows, IsRowDone, lines_from, refused_count}
+use Rattle.office_wire.specs.declared.record_import.ImportStop.{ImportStop}
+use Rattle.office_wire.specs.declared.record_import.ImportStop.TheVariants as import
 use Rattle.office_commands.specs.Applying.{exit_of_none}
 use Rattle.office_commands.specs.Calling.{Reports}
 use Rattle.office_commands.specs.Certifying.{Certifies}
 use Rattle.office_commands.specs.ExitStatuses.{exit_of_acts}
 use Rattle.office_commands.specs.Exporting.{Exports}
+use Rattle.office_commands.specs.Importing.{exit_of_import}
 use Rattle.office_commands.specs.Making.{version_line}
 use Rattle.office_commands.specs.Resuming.{IsRunReported}
 use Rattle.office_commands.specs.declared.exit.Exit.{Exit}
@@ -104,8 +107,17 @@ pub record AreActsDone (text : List ℕ) (written after : Option (List ℕ)) (ex
   -- all of them, if the exit says so
   pub all : SaysAll exit → u ≡ after_acts s acts
 
--- rows of the text were added, in their order: those whose lines were written, and at most one more; where writing
--- failed, all of them have their lines, but for a part of the last one's
+-- why an import ended after these rows: none was left, and so many of them were refused; the next is no row of the
+-- text, and has that number; a fault stopped it; or reading or writing failed
+abbrev pub IsEndOfRows : List Fields → List Answer → Result ℕ ImportStop → Type 0
+IsEndOfRows rows answers (Ok refused) = refused ≡ refused_count answers
+IsEndOfRows rows answers (Err import.Header) = ⊥
+IsEndOfRows rows answers (Err (import.Row number)) = number ≡ length rows + 1
+IsEndOfRows rows answers (Err (import.Fault f)) = Unit {0}
+IsEndOfRows rows answers (Err import.Io) = Unit {0}
+
+-- rows of the text were added, in their order: those whose lines were written, and at most one more, which is a row of
+-- the text too; where writing failed, all of them have their lines, but for a part of the last one's
 pub record AreRowsAdded (day : ℤ) (text : Option (List ℕ)) (written after : Option (List ℕ)) (exit : Exit)
     (s u : State) : Type 0 where
   pub rows : List Fields
@@ -116,6 +128,10 @@ pub record AreRowsAdded (day : ℤ) (text : Option (List ℕ)) (written after : 
   pub answered : Appends written after (lines_from 0 answers) ⊎ (exit ≡ how.File) × AreLinesOut answers written after
   pub state : (u ≡ reached)
       ⊎ ((row : Fields) × (answer : Answer) × AreSomeRows text (rows ++ row ∷ []) × IsRowDone day reached row answer u)
+  -- the exit says why it ended
+  pub ended : Result ℕ ImportStop
+  pub reported : exit ≡ exit_of_import ended
+  pub why : IsEndOfRows rows answers ended
   -- all of them, if the exit says so
   pub all : SaysAll exit → AreAllRows text rows × (u ≡ reached)
 

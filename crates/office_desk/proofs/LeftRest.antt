@@ -12,15 +12,30 @@ use Rattle.office_store.specs.Adopted.{LeavesLess}
 use Rattle.office_desk.specs.Calling.{LeavesRestOf}
 use Rattle.office_desk.specs.Desk.{DeskState}
 use Rattle.office_desk.specs.Leaving.{IsAt}
+use Rattle.office_desk.specs.Outcomes.{FromEach, SparesTheRest}
 use Rattle.office_desk.specs.Opening.{LeavesRest}
 
 -- where nothing was done
-pub rest_here : {S : Type 0} (g : Ghosts S) (s : State) (d : DeskState S) → IsAt g s d → LeavesRestOf g d d
+rest_here : {S : Type 0} (g : Ghosts S) (s : State) (d : DeskState S) → IsAt g s d → LeavesRestOf g d d
 rest_here g s d represents = leaves_at_rest schema_version.Two (SparesRest (state g d.connection).now) (state g d.connection) represents.rows.rest (spares_none (state g d.connection).now)
 
+pub spares_here : {S : Type 0} (g : Ghosts S) (d : DeskState S) → SparesTheRest g d d
+spares_here g d = record { clean = λ clean. clean; shield = λ shielded. shielded; rest = λ s clean at. rest_here g s d at }
+
 -- one call after another
-pub rest_then : {S : Type 0} (g : Ghosts S) (t : State) (old mid new : DeskState S) → IsAt g t mid → LeavesRestOf g old mid → LeavesRestOf g mid new → LeavesRestOf g old new
+rest_then : {S : Type 0} (g : Ghosts S) (t : State) (old mid new : DeskState S) → IsAt g t mid → LeavesRestOf g old mid → LeavesRestOf g mid new → LeavesRestOf g old new
 rest_then g t old mid new represents = leaves_then schema_version.Two (state g old.connection) (state g mid.connection) (state g new.connection) represents.rows.rest
+
+-- where the first leads to a state
+pub spares_then : {S : Type 0} (g : Ghosts S) (old mid new : DeskState S) → FromEach g old mid (λ s. (t : State) × IsAt g t mid) → SparesTheRest g old mid → SparesTheRest g mid new → SparesTheRest g old new
+spares_then g old mid new there first next = record {
+  clean = λ clean. first.clean (next.clean clean);
+  shield = λ shielded. next.shield (first.shield shielded);
+  rest = λ s clean at.
+      let before = next.clean clean in
+      let mid_at = there s before at in
+      rest_then g mid_at.0 old mid new mid_at.1 (first.rest s before at) (next.rest mid_at.0 clean mid_at.1);
+}
 
 -- where a crash leaves no more than it left
 pub rest_read : {S : Type 0} (g : Ghosts S) (s : State) (old new : DeskState S) → IsAt g s old → LeavesLess (state g old.connection) (state g new.connection) → LeavesRestOf g old new

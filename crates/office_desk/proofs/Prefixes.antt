@@ -1,24 +1,28 @@
 -- Acts one after another: what one more act at their end comes to.
-use Rattle.std.proofs.Common.{◌≡◌, inl, ℕ, ◌+◌, ◌<◌, ◌≤◌, arith, length, take, get_or, List, [], ◌∷◌, ◌++◌, IsTrue, refl, sym, ap, subst, ◌∙◌, append_assoc}
+use Rattle.std.proofs.Common.{◌≡◌, inl, ℕ, ◌+◌, ◌<◌, ◌≤◌, false, arith, length, take, get_or, List, [], ◌∷◌, ◌++◌, IsTrue, Result, Ok, Err, refl, sym, ap, subst, ◌∙◌, append_assoc, append-nil}
+use Rattle.std.specs.FinMap.{empty}
 use Rattle.std.proofs.lemmas.List.{take_more}
 use Rattle.sqlite.specs.Held.{state}
 use Rattle.sqlite.specs.State.{HasCleanDisk}
 use Rattle.sqlite_trees.specs.declared.store.Store.{Ghosts}
 use Rattle.office_rules.specs.Acts.{after, answers, step}
 use Rattle.office_rules.specs.Rows.{rows_of}
-use Rattle.office_rules.specs.State.{State, Office}
+use Rattle.office_rules.specs.State.{State, Office, with_contents}
 use Rattle.office_rules.specs.declared.act.Act.{Act}
 use Rattle.office_rules.specs.declared.answer.Answer.{Answer}
 use Rattle.office_store.specs.RepresentsRows.{ContainsRows}
 use Rattle.office_store.specs.declared.fault.Fault.{Fault}
 use Rattle.office_store.specs.declared.fault.Fault.TheVariants as fault
 use Rattle.office_sql.specs.Office.{Leaves, SparesRest}
-use Rattle.office_desk.specs.Calling.{AreDone, AreStopped, Called, IsDone, IsFaulted, IsPoisoned, LeavesRestOf}
+use Rattle.office_desk.specs.Calling.{IsPoisoned}
 use Rattle.office_desk.specs.Desk.{DeskState}
 use Rattle.office_rules.specs.Forms.{IsWellFormedAct}
 use Rattle.office_desk.specs.Headline.{AreWellFormed}
 use Rattle.office_desk.specs.Leaving.{IsAt, StopsAt, StopsLeaving}
-use Rattle.office_desk.proofs.LeftRest.{rest_then}
+use Rattle.office_desk.specs.Outcomes.{ActsLeave, AreAnswered, ContainsState, FromEach, IsActAnswered, SparesTheRest, acts_outcome}
+use Rattle.office_desk.proofs.LeftFates.{none_left}
+use Rattle.office_desk.proofs.LeftRest.{spares_here, spares_then}
+use Rattle.office_desk.proofs.Outcomes.{stopped_answered, stopped_leaves}
 
 after-push : (s : State) (acts : List Act) (a : Act) → after s (acts ++ a ∷ []) ≡ (step (after s acts) a).1
 after-push s [] a = refl
@@ -55,85 +59,117 @@ module _ (acts : List Act) (i : ℕ) (a : Act) (within : i < length acts) (is : 
       ∙ ap (λ ys. given ++ ys) (sym (answers-push s (take i acts) a) ∙ sym (ap (answers s) prefix_next))
 
 -- at a poisoned desk after an act was done
-pub stops_reopen : {S : Type 0} (office : Office) (f : Fault) (d : DeskState S) → f ≡ fault.Reopen → IsTrue d.is_poisoned → StopsAt office f d
+stops_reopen : {S : Type 0} (office : Office) (f : Fault) (d : DeskState S) → f ≡ fault.Reopen → IsTrue d.is_poisoned → StopsAt office f d
 stops_reopen office f d is gone = subst (λ (it : Fault). StopsAt office it d) (sym is) gone
 
-pub leaves_reopen : {S : Type 0} (g : Ghosts S) (s next : State) (f : Fault) (done d : DeskState S) → f ≡ fault.Reopen → d.connection ≡ done.connection → IsAt g next done → StopsLeaving s next f (state g d.connection)
-leaves_reopen g s next f done d is connection represents =
-    subst (λ (it : Fault). StopsLeaving s next it (state g d.connection)) (sym is) (subst (λ it. ContainsRows (rows_of next) (state g it)) (sym connection) represents.rows)
+leaves_reopen : {S : Type 0} (g : Ghosts S) (s next : State) (f : Fault) (done d : DeskState S) → f ≡ fault.Reopen → d.connection ≡ done.connection → ContainsRows (rows_of next) (state g done.connection) → StopsLeaving s next f (state g d.connection)
+leaves_reopen g s next f done d is connection rows =
+    subst (λ (it : Fault). StopsLeaving s next it (state g d.connection)) (sym is) (subst (λ it. ContainsRows (rows_of next) (state g it)) (sym connection) rows)
 
 -- ---- what was called so far, and one more
 
--- acts so far, from one desk to another
-abbrev pub CalledPrefix : {S : Type 0} (g : Ghosts S) (old new : DeskState S) (acts : List Act) (given found : List Answer) → Type 0
-CalledPrefix g old new acts given found = Called g old new (λ s Pre. AreDone g s acts given found new Pre)
+-- acts so far were done, from one desk to another, and answered
+pub record CalledPrefix {S : Type 0} (g : Ghosts S) (old new : DeskState S) (acts : List Act) (given found : List Answer) : Type 0 where
+  pub still : new.is_poisoned ≡ false
+  pub added : (s : State) → s.office ≡ old.office → found ≡ given ++ answers s acts
+  pub office : (s : State) → s.office ≡ old.office → new.office ≡ (after s acts).office
+  pub leaves : FromEach g old new (λ s. ContainsState (after s acts) (state g new.connection))
+  pub rest : SparesTheRest g old new
+
+-- none so far
+pub none_called : {S : Type 0} (g : Ghosts S) (d : DeskState S) (given found : List Answer) → d.is_poisoned ≡ false → found ≡ given → CalledPrefix g d d [] given found
+none_called g d given found is_open silent = record {
+  still = is_open;
+  added = λ s same. ◌∙◌ {A = List Answer} silent (sym (append-nil given));
+  office = λ s same. sym same;
+  leaves = λ s clean at. record { sound = at.sound; rows = at.rows };
+  rest = spares_here g d;
+}
+
+-- how acts end
+pub record Ends {S : Type 0} (g : Ghosts S) (old new : DeskState S) (acts : List Act) (given found : List Answer) (r : Result (Unit {0}) Fault) : Type 0 where
+  pub answered : (s : State) → s.office ≡ old.office → AreAnswered s acts (acts_outcome r given found) given found new
+  pub leaves : FromEach g old new (λ s. ActsLeave s acts (acts_outcome r given found) (state g new.connection))
+  pub rest : SparesTheRest g old new
+
+-- all were done
+pub all_ended : {S : Type 0} (g : Ghosts S) (old new : DeskState S) (acts : List Act) (given found : List Answer) → AreWellFormed acts → CalledPrefix g old new acts given found → Ends g old new acts given found (Ok tt)
+all_ended g old new acts given found formed so_far = record {
+  answered = λ s same. record { formed = formed; fits = tt; added = so_far.added s same; leads = (so_far.office s same, so_far.still) };
+  leaves = so_far.leaves;
+  rest = so_far.rest;
+}
+
+-- no act was begun, for lack of memory
+pub none_begun : {S : Type 0} (g : Ghosts S) (d : DeskState S) (acts : List Act) (given found : List Answer) → AreWellFormed acts → d.is_poisoned ≡ false → found ≡ given → Ends g d d acts given found (Err fault.Memory)
+none_begun g d acts given found formed is_open silent =
+    let none : found ≡ given ++ [] = ◌∙◌ {A = List Answer} silent (sym (append-nil given)) in
+    record {
+      answered = λ s same. stopped_answered s acts given found fault.Memory 0 (omega arith) none d formed (none_left acts) (sym same, is_open);
+      leaves = λ s clean at. stopped_leaves s acts given found fault.Memory 0 (omega arith) none (state g d.connection) at.rows;
+      rest = spares_here g d;
+    }
 
 module _ (acts : List Act) (i : ℕ) (a : Act) (within : i < length acts) (is : a ≡ get_or acts i a) {S : Type 0} (g : Ghosts S) (old mid : DeskState S) (given before : List Answer)
     (so_far : CalledPrefix g old mid (take i acts) given before) where
-  -- what the next call leaves of the rest of the file
-  rest_next : (new : DeskState S) → (HasCleanDisk (state g new.connection) → HasCleanDisk (state g mid.connection)) → (s : State) → HasCleanDisk (state g new.connection) → IsAt g s old
-      → (HasCleanDisk (state g new.connection) → IsAt g (after s (take i acts)) mid → LeavesRestOf g mid new) → LeavesRestOf g old new
-  rest_next new early s clean at next =
-      let represents = (so_far.did s at.is_open (sym at.office)).represents (early clean, at) in
-      rest_then g (after s (take i acts)) old mid new represents (so_far.rest s (early clean) at) (next clean represents)
+  -- from a state of the first desk, the next is after the acts so far
+  at_mid : FromEach g old mid (λ s. IsAt g (after s (take i acts)) mid)
+  at_mid s clean at =
+      let left = so_far.leaves s clean at in
+      record { is_open = so_far.still; office = so_far.office s (sym at.office); sound = left.sound; rows = left.rows }
+
+  rest_next : (new : DeskState S) → SparesTheRest g mid new → SparesTheRest g old new
+  rest_next new = spares_then g old mid new (λ s clean at. (after s (take i acts), at_mid s clean at)) so_far.rest
 
   -- another act is done and reported
-  pub one_more : (new : DeskState S) (answer : Answer) (found : List Answer) → Called g mid new (λ s Pre. IsDone g s a answer new Pre) → found ≡ before ++ answer ∷ []
-      → CalledPrefix g old new (take (i + 1) acts) given found
-  one_more new answer found one reported = record {
-    clean = λ clean. so_far.clean (one.clean clean);
-    shield = λ shielded. one.shield (so_far.shield shielded);
-    did = λ s is_open same.
-        let so = so_far.did s is_open same in
-        let it = one.did (after s (take i acts)) so.is_open (sym so.office) in
-        record {
-          answered = answers_next acts i a within is s given before found so.answered (◌∙◌ {A = List Answer} reported (ap (λ (b : Answer). before ++ b ∷ []) it.answered));
-          office = sym (office_next acts i a within is s new.office it.office);
-          is_open = it.is_open;
-          represents = λ at. subst (λ (t : State). IsAt g t new) (sym (after_next acts i a within is s)) (it.represents (at.0, so.represents (one.clean at.0, at.1)));
-        };
-    rest = λ s clean at. rest_next new one.clean s clean at (one.rest (after s (take i acts)));
-  }
+  pub one_more : (new : DeskState S) (answer : Answer) (found : List Answer) → ((s : State) → s.office ≡ mid.office → IsActAnswered s a (Ok answer) mid new)
+      → FromEach g mid new (λ s. ContainsState (step s a).1 (state g new.connection)) → SparesTheRest g mid new → found ≡ before ++ answer ∷ [] → CalledPrefix g old new (take (i + 1) acts) given found
+  one_more new answer found answered leaves rest reported =
+      let it : (s : State) → s.office ≡ old.office → IsActAnswered (after s (take i acts)) a (Ok answer) mid new = λ s same. answered (after s (take i acts)) (sym (so_far.office s same)) in
+      record {
+        still = (answered (with_contents mid.office empty) refl).leads.1;
+        added = λ s same. answers_next acts i a within is s given before found (so_far.added s same) (◌∙◌ {A = List Answer} reported (ap (λ (b : Answer). before ++ b ∷ []) (it s same).answered));
+        office = λ s same. sym (office_next acts i a within is s new.office (it s same).leads.0);
+        leaves = λ s clean at.
+            subst (λ (t : State). ContainsState t (state g new.connection)) (sym (after_next acts i a within is s)) (leaves (after s (take i acts)) clean (at_mid s (rest.clean clean) at));
+        rest = rest_next new rest;
+      }
 
-  -- it is stopped by a fault
-  pub stopped_next : (new : DeskState S) (f : Fault) → Called g mid new (λ s Pre. IsFaulted g s (step s a).1 f mid new Pre) → Called g old new (λ s Pre. AreStopped g s acts given before f new Pre)
-  stopped_next new f one = record {
-    clean = λ clean. so_far.clean (one.clean clean);
-    shield = λ shielded. one.shield (so_far.shield shielded);
-    did = λ s is_open same.
-        let so = so_far.did s is_open same in
-        let it = one.did (after s (take i acts)) so.is_open (sym so.office) in
+  module _ (formed : AreWellFormed acts) where
+    -- it is stopped by a fault
+    pub stopped_next : (new : DeskState S) (f : Fault) → ((s : State) → s.office ≡ mid.office → IsActAnswered s a (Err f) mid new) → FromEach g mid new (λ s. StopsLeaving s (step s a).1 f (state g new.connection)) → SparesTheRest g mid new
+        → Ends g old new acts given before (Err f)
+    stopped_next new f answered leaves rest =
         let low : i ≤ length acts = omega (arith, within) in
         record {
-          count = i;
-          prefix = record { within = low; one_more = inl within; answered = so.answered };
-          stops = subst (λ (o : Office). StopsAt o f new) so.office it.stops;
-          left = λ at.
-              subst (λ (t : State). StopsLeaving (after s (take i acts)) t f (state g new.connection)) (sym (after_next acts i a within is s))
-              (it.left (at.0, so.represents (one.clean at.0, at.1)));
-        };
-    rest = λ s clean at. rest_next new one.clean s clean at (one.rest (after s (take i acts)));
-  }
+          answered = λ s same.
+              stopped_answered s acts given before f i low (so_far.added s same) new formed (inl within) (answered (after s (take i acts)) (sym (so_far.office s same))).leads;
+          leaves = λ s clean at.
+              stopped_leaves s acts given before f i low (so_far.added s (sym at.office)) (state g new.connection)
+              (subst (λ (t : State). StopsLeaving (after s (take i acts)) t f (state g new.connection)) (sym (after_next acts i a within is s)) (leaves (after s (take i acts)) clean (at_mid s (rest.clean clean) at)));
+          rest = rest_next new rest;
+        }
 
-  -- it is done, and finds no room for its answer
-  pub unreported_next : (done new : DeskState S) (answer : Answer) (found : List Answer) (f : Fault) → Called g mid done (λ s Pre. IsDone g s a answer done Pre) → new.connection ≡ done.connection → found ≡ before → IsPoisoned f new
-      → Called g old new (λ s Pre. AreStopped g s acts given found f new Pre)
-  unreported_next done new answer found f one connection silent gone =
-      let clean_done : HasCleanDisk (state g new.connection) → HasCleanDisk (state g done.connection) = subst (λ it. HasCleanDisk (state g it)) connection in
-      record {
-        clean = λ clean. so_far.clean (one.clean (clean_done clean));
-        shield = λ shielded. subst (λ it. (state g it).IsShielded) (sym connection) (one.shield (so_far.shield shielded));
-        did = λ s is_open same.
-            let so = so_far.did s is_open same in
-            let it = one.did (after s (take i acts)) so.is_open (sym so.office) in
-            let low : i ≤ length acts = omega (arith, within) in
-            record {
-              count = i;
-              prefix = record { within = low; one_more = inl within; answered = ◌∙◌ {A = List Answer} silent so.answered };
-              stops = stops_reopen (after s (take i acts)).office f new gone.reopen gone.gone;
-              left = λ at.
-                  leaves_reopen g (after s (take i acts)) (after s (take (i + 1) acts)) f done new gone.reopen connection
-                  (subst (λ (t : State). IsAt g t done) (sym (after_next acts i a within is s)) (it.represents (clean_done at.0, so.represents (one.clean (clean_done at.0), at.1))));
-            };
-        rest = λ s clean at. subst (λ it. Leaves (SparesRest (state g old.connection).now) (state g it)) (sym connection) (rest_next done one.clean s (clean_done clean) at (one.rest (after s (take i acts))));
-      }
+    -- it is done, and finds no room for its answer
+    pub unreported_next : (done new : DeskState S) (answer : Answer) (found : List Answer) (f : Fault) → ((s : State) → s.office ≡ mid.office → IsActAnswered s a (Ok answer) mid done)
+        → FromEach g mid done (λ s. ContainsState (step s a).1 (state g done.connection)) → SparesTheRest g mid done → new.connection ≡ done.connection → found ≡ before → IsPoisoned f new
+        → Ends g old new acts given found (Err f)
+    unreported_next done new answer found f answered leaves rest connection silent gone =
+        let low : i ≤ length acts = omega (arith, within) in
+        let added : (s : State) → s.office ≡ old.office → found ≡ given ++ answers s (take i acts) = λ s same. ◌∙◌ {A = List Answer} silent (so_far.added s same) in
+        let so = rest_next done rest in
+        let clean_done : HasCleanDisk (state g new.connection) → HasCleanDisk (state g done.connection) = subst (λ it. HasCleanDisk (state g it)) connection in
+        record {
+          answered = λ s same.
+              stopped_answered s acts given found f i low (added s same) new formed (inl within) (stops_reopen (after s (take i acts)).office f new gone.reopen gone.gone);
+          leaves = λ s clean at.
+              let next = leaves (after s (take i acts)) (clean_done clean) (at_mid s (rest.clean (clean_done clean)) at) in
+              stopped_leaves s acts given found f i low (added s (sym at.office)) (state g new.connection)
+              (subst (λ (t : State). StopsLeaving (after s (take i acts)) t f (state g new.connection)) (sym (after_next acts i a within is s))
+              (leaves_reopen g (after s (take i acts)) (step (after s (take i acts)) a).1 f done new gone.reopen connection next.rows));
+          rest = record {
+            clean = λ clean. so.clean (clean_done clean);
+            shield = λ shielded. subst (λ it. (state g it).IsShielded) (sym connection) (so.shield shielded);
+            rest = λ s clean at. subst (λ it. Leaves (SparesRest (state g old.connection).now) (state g it)) (sym connection) (so.rest s (clean_done clean) at);
+          };
+        }

@@ -2,6 +2,7 @@
 use Rattle.std.specs.Prelude.{◌≡◌, ◌≢◌, ℕ, suc, false, MatchResult, Option, Some, None, Result, Ok, Err}
 use Rattle.sqlite.specs.Held.{state}
 use Rattle.sqlite.specs.State as sqlite
+use Rattle.sqlite.specs.State.{HasCleanDisk}
 use Rattle.sqlite_trees.specs.declared.store.Store.{Ghosts}
 use Rattle.office_rules.specs.Rows.{rows_of}
 use Rattle.office_rules.specs.Runs.{IsMidway, after_steps, open_run, whole}
@@ -9,7 +10,7 @@ use Rattle.office_rules.specs.State.{State}
 use Rattle.office_rules.specs.declared.answer.Answer.{Answer}
 use Rattle.office_store.specs.RepresentsRows.{ContainsRows, LeavesOffices}
 use Rattle.office_store.specs.declared.fault.Fault.{Fault}
-use Rattle.office_desk.specs.Calling.{AreStepsStopped, WasAt}
+use Rattle.office_store.specs.declared.fault.Fault.TheVariants as fault
 use Rattle.office_desk.specs.Desk.{DeskState}
 use Rattle.office_desk.specs.Fates.{LeavesStepFates}
 use Rattle.office_desk.specs.Leaving.{IsAt, LeavesRowsOf, LeavesStep, StopsAt, StopsLeaving}
@@ -47,10 +48,19 @@ pub record IsResumed {S : Type 0} (s : State) (answer : Answer) (old new : DeskS
       → new.office ≡ (whole begun run).office
   pub same : open_run old.office ≡ None → new.office ≡ old.office
 
+-- a fault stopped the steps after so many; and what a crash leaves where the disk is clean
+pub record AreStepsStopped {S : Type 0} (g : Ghosts S) (s : State) (f : Fault) (old new : DeskState S) : Type 0 where
+  pub memory : open_run old.office ≡ None → f ≡ fault.Memory → new ≡ old
+  pub count : ℕ
+  pub one_more : LeavesStep s f count
+  pub stops : StopsAt (after_steps s count).office f new
+  pub left : HasCleanDisk (state g new.connection) → IsAt g s old
+      → StopsLeaving (after_steps s count) (after_steps s (suc count)) f (state g new.connection)
+
 -- a resumption is answered; or a fault stopped it after so many steps, in memory and in the file
 abbrev pub IsRunAnswered : {S : Type 0} → Ghosts S → State → Result Answer Fault → (old new : DeskState S) → Type 0
 IsRunAnswered g s result old new =
-    MatchResult result (λ answer. IsResumed s answer old new) (λ f. AreStepsStopped g s f old new (WasAt g s old new))
+    MatchResult result (λ answer. IsResumed s answer old new) (λ f. AreStepsStopped g s f old new)
 
 -- ---- at a desk over a clean disk
 

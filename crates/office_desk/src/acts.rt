@@ -2,11 +2,10 @@
 ghost use Rattle.std.specs.Prelude.{◌≡◌, Err, IsTrue, MatchResult, [], ◌∷◌, ◌++◌, false};
 ghost use Rattle.sqlite.specs.Held.{state};
 ghost use Rattle.office_rules.specs.Acts.{CanBeMade};
-ghost use Rattle.office_rules.specs.Forms.{IsWellFormedAct};
 ghost use Rattle.office_rules.specs.State.{State};
 ghost use Rattle.office_desk.specs.Headline.{AreWellFormed};
-ghost use Rattle.office_desk.specs.Calling.{Called, EndAct, EndActs, EndChange, IsPoisoned, IsMade};
-ghost use Rattle.office_desk.specs.Outcomes.{ActsCameTo, AreAnswered, FromEach, IsActAnswered, SparesTheRest, StopsChange, act_outcome, acts_outcome};
+ghost use Rattle.office_desk.specs.Calling.{ChangeLeaves, IsMade, IsNotMade, IsPoisoned};
+ghost use Rattle.office_desk.specs.Outcomes.{ActsCameTo, ActsLeave, AreAnswered, FromEach, IsActAnswered, SparesTheRest, act_outcome, acts_outcome};
 
 use crate::Desk;
 use crate::fates::law_of_fates;
@@ -29,10 +28,11 @@ impl<S: Alter> Desk<S> {
     /// One act, by a desk that is open. Its answer comes once its commit is done.
     pub(crate) fn perform_one(&mut self, act: &Act) -> Result<Answer, Fault>
         requires open { self.old.is_poisoned ≡ false }
-        ensures formed { IsWellFormedAct act.now }
-        ensures stops { (s : State) → s.office ≡ self.old.office → StopsChange s act.now result }
-        ensures called { Called S.Store self.old self.new
-            (λ s Pre. EndAct S.Store s act.now result self.old self.new Pre) }
+        ensures answered { (s : State) → s.office ≡ self.old.office
+            → IsActAnswered s act.now result self.old self.new }
+        ensures leaves { FromEach S.Store self.old self.new (λ s. ActsLeave s (act.now ∷ [])
+            (act_outcome result) (state S.Store self.new.connection)) }
+        ensures rest { SparesTheRest S.Store self.old self.new }
     {
         match self.machine.decide(act) {
             Ok(Decision::Stay(answer)) => Ok(answer),
@@ -45,8 +45,11 @@ impl<S: Alter> Desk<S> {
     fn make(&mut self, change: Change) -> Result<Answer, Fault>
         requires open { self.old.is_poisoned ≡ false }
         requires feasible { CanBeMade self.old.office change }
-        ensures { Called S.Store self.old self.new
-            (λ s Pre. EndChange S.Store s change result self.old self.new Pre) }
+        ensures ends { MatchResult result (λ answer. IsMade change answer self.old self.new)
+            (λ fault. IsNotMade fault self.old self.new) }
+        ensures leaves { FromEach S.Store self.old self.new
+            (λ s. ChangeLeaves s change result (state S.Store self.new.connection)) }
+        ensures rest { SparesTheRest S.Store self.old self.new }
     {
         match self.store.save(self.alloc, &change) {
             Ok(()) => self.finish(change),
@@ -91,9 +94,13 @@ impl<S: Alter> Desk<S> {
     /// One act after another, by a desk that is open.
     fn perform_open(&mut self, acts: &[Act], answers: &mut Vec<Answer>) -> Result<(), Fault>
         requires open { self.old.is_poisoned ≡ false }
-        ensures { Called S.Store self.old self.new
-            (λ s Pre. EndActs S.Store s acts.now answers.old.items answers.new.items result self.new
-            Pre) }
+        requires formed { AreWellFormed acts.now }
+        ensures answered { (s : State) → s.office ≡ self.old.office
+            → AreAnswered s acts.now (acts_outcome result answers.old.items answers.new.items)
+            answers.old.items answers.new.items self.new }
+        ensures leaves { FromEach S.Store self.old self.new (λ s. ActsLeave s acts.now
+            (acts_outcome result answers.old.items answers.new.items) (state S.Store self.new.connection)) }
+        ensures rest { SparesTheRest S.Store self.old self.new }
     {
         for act in acts {
             let answer = self.perform_one(act)?;
@@ -160,6 +167,7 @@ impl<S: Alter> Desk<S> {
         ensures rest { SparesTheRest S.Store self.old self.new }
     {
         law_of_fates();
+        law_of_resumption();
         if self.is_poisoned {
             return Err(Fault::Reopen);
         }
@@ -167,7 +175,6 @@ impl<S: Alter> Desk<S> {
         if answers.try_reserve(acts.len()).is_err() {
             return Err(Fault::Memory);
         }
-        law_of_resumption();
         self.perform_open(acts, answers)
     }
 }

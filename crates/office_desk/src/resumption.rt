@@ -2,7 +2,6 @@
 ghost use Rattle.std.specs.Prelude.{◌≡◌, Err, IsTrue, false};
 ghost use Rattle.office_rules.specs.Runs.{open_run};
 ghost use Rattle.office_rules.specs.State.{State};
-ghost use Rattle.office_desk.specs.Calling.{Called, EndSteps};
 ghost use Rattle.office_desk.specs.Outcomes.{FromEach, SparesTheRest};
 ghost use Rattle.office_desk.specs.Resumptions.{IsRunAnswered, RunCameTo, run_outcome};
 
@@ -17,9 +16,14 @@ impl<S: Alter> Desk<S> {
     /// Steps until no run is open, by a desk that is open.
     fn take_steps(&mut self) -> Result<Answer, Fault>
         requires open { self.old.is_poisoned ≡ false }
-        ensures { Called S.Store self.old self.new
-            (λ s Pre. EndSteps S.Store s result self.old self.new Pre) }
+        ensures answered { (s : State) → s.office ≡ self.old.office
+            → IsRunAnswered S.Store s result self.old self.new }
+        ensures leaves { FromEach S.Store self.old self.new (λ s. RunCameTo S.Store s
+            (run_outcome result (open_run self.old.office)) self.new) }
+        ensures rest { SparesTheRest S.Store self.old self.new }
     {
+        law_of_fates();
+        law_of_resumption();
         'steps: loop {
             match self.perform_one(&Act::RunStep)? {
                 Answer::Step(_, _) => {}
@@ -50,8 +54,6 @@ impl<S: Alter> Desk<S> {
         // The rest of the file stays as it was.
         ensures rest { SparesTheRest S.Store self.old self.new }
     {
-        law_of_fates();
-        law_of_resumption();
         if self.is_poisoned {
             return Err(Fault::Reopen);
         }

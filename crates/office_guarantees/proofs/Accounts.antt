@@ -1,10 +1,9 @@
 -- The acts of runs of the program account for what their file holds, and the evidence in it is true of them.
-use Rattle.std.proofs.Common.{◌≡◌, ◌∙◌, ◌<◌, ◌++◌, ◌∷◌, [], ℕ, zero, suc, inl, inr, List, length, Option, None, Some, refl, sym, ap, subst}
+use Rattle.std.proofs.Common.{◌≡◌, ◌∙◌, ◌<◌, ◌++◌, ◌∷◌, [], ℕ, zero, suc, inl, inr, List, length, Option, None, Some, refl, ap, subst}
 use Rattle.std.proofs.Math.Logic.{∥∥₁_map}
 use Rattle.std.specs.FinMap.{get}
 use Rattle.std.specs.Io.KnownBytes.{Appends}
 use Rattle.sqlite_wal.specs.Recovery.{Image}
-use Rattle.sqlite.specs.Files.{IsNothing}
 use Rattle.office_base.specs.declared.refusal.Refusal.TheVariants as refused
 use Rattle.office_records.specs.Lists.{numbered}
 use Rattle.office_records.proofs.Places.{numbered_push}
@@ -20,7 +19,7 @@ use Rattle.office_life.specs.Standing.{Stage, StandsAt, unmade}
 use Rattle.office_command_line.specs.Orders as command
 use Rattle.office_evidence.specs.History.{AreWellFormed}
 use Rattle.office_evidence.specs.Truth.{IsTrueCertificate, IsTrueEntry}
-use Rattle.office_commands.specs.FileHistory.{ActsOfRuns, FileHistory, FilesFollow, IsLeftAt, ProgramRun, ReportsContents, StateHistory, no_run, one_run, ran_command, ran_service}
+use Rattle.office_commands.specs.FileHistory.{ActsOfRuns, FileHistory, FilesFollow, IsLeftAt, ProgramRun, ReportsContents, StateHistory, no_run, one_run, ran_command}
 use Rattle.office_commands.specs.declared.exit.Exit.TheVariants as how
 use Rattle.office_guarantees.specs.TrueFiles.{AccountFor, FilesAreTrue, FilesAreTrueSince, HasPrinted, IsTrueEvidence, IsTrueEvidenceSince}
 
@@ -72,7 +71,7 @@ module _ (stay : StaySound) (last : CertificatesLast) where
   printed_last s u run file text written after (inr (inl (None, is, (says, silent)), same)) = let no : how.Done ≡ how.Refused refused.NoSuch = says in absurd cc
   printed_last s u run file text written after (inr (inl (Some body, is, inl (out, done)), same)) = (body, out, ap (λ (x : State). get x.office.certificates run) same ∙ is)
   printed_last s u run file text written after (inr (inl (Some body, is, inr (some, failed)), same)) = let no : how.Done ≡ how.File = failed in absurd cc
-  printed_last s u run file text written after (inr (inr (says, silent), same)) = let no : how.Done ≡ how.Fault fault.Memory = says in absurd cc
+  printed_last s u run file text written after (inr (inr (says, rest), same)) = let no : how.Done ≡ how.Fault fault.Memory = says in absurd cc
 
   module _ (s : State) (sound : IsSound s) (run : ℕ) (file text : List ℕ) (written after : Option (List ℕ)) where
     abbrev printing : ProgramRun
@@ -84,7 +83,7 @@ module _ (stay : StaySound) (last : CertificatesLast) where
 
     printed_at : (runs : List ProgramRun) (done : List Act) → AreWellFormed done → ActsOfRuns s runs done → (n : ℕ) → numbered runs n ≡ Some printing → IsPrintedAt s done run written after
     printed_at runs done formed (no_run) n there = absurd (none_there n there)
-    printed_at runs done formed (one_run before now first more of left) n there =
+    printed_at runs done formed (one_run before now first more of are left) n there =
         let both = formed_both first more formed in
         elim (numbered_push before now printing n there) [
           | inl was ↦

@@ -1,6 +1,7 @@
 //! The command `due`: its operands read, and the due day written.
 ghost use Rattle.std.specs.Prelude.{◌≡◌, IsOk, IfOk, IfErr, OnOk, OnErr};
 ghost use Rattle.std.specs.Io.KnownBytes.{Appends};
+ghost use Rattle.office_base.specs.Output.{AppendsSome};
 ghost use Rattle.office_plan.specs.DueCommand.{due_asked, due_line, due_made, move_asked, refusal_asked, written_line};
 
 use crate::parts::{both, read_day, read_period};
@@ -45,7 +46,8 @@ fn line_of(day: DueDay) -> [u8; 11]
 /// `office due UNIT COUNT OFFSET DAY`: writes the due day's line, or gives why there is none,
 /// with nothing written: `BadText` where an operand is not of its form, else `BadNumber` where
 /// the count is over the unit's limit. COUNT is one or more ASCII digits, leading zeros allowed.
-/// `Io` comes where the writer answered an error.
+/// `Io` comes where the writer answered an error; the first bytes of the line, or none, went out
+/// then.
 pub fn due_to<W: Write>(
     unit: &str,
     count: &str,
@@ -63,6 +65,11 @@ pub fn due_to<W: Write>(
     ensures untouched { IfErr (due_asked unit.now count.now offset.now day.now)
         (λ _. out.new ≡ out.old) }
     ensures failed { OnErr result (IsOk (due_asked unit.now count.now offset.now day.now)) }
+
+    // Where the writer fails, no line but that of the due day has begun to go out.
+    ensures some { OnErr result
+        (AppendsSome (W.contents out.old) (W.contents out.new)
+        (written_line (due_asked unit.now count.now offset.now day.now))) }
 {
     match due_of(unit, count, offset, day) {
         Ok(due) => {

@@ -1,7 +1,8 @@
 //! The command `plan`: a plan file done line by line, and the due days of its records written.
-ghost use Rattle.std.specs.Prelude.{◌≡◌, ◌++◌, length, Err, IfErr, IfOk, IfSome, IsSome, IsTrue, None, OnOk};
+ghost use Rattle.std.specs.Prelude.{◌≡◌, ◌++◌, length, Err, IfErr, IfOk, IfSome, IsSome, IsTrue, None, OnErr, OnOk};
 ghost use Rattle.std.specs.Io.KnownBytes.{Appends};
 ghost use Rattle.std.specs.Str.Lines.{lines};
+ghost use Rattle.office_base.specs.Output.{AppendsSome};
 ghost use Rattle.office_records.specs.Tree.{empty_tree, has_record};
 ghost use Rattle.office_plan.specs.PlanFile.{due_line, due_lines, due_word, plan_asked, plan_from, plan_refusal, plan_written, plan_result};
 
@@ -115,7 +116,8 @@ fn lines_asked(alloc: Global, bytes: &[u8]) -> Result<Result<Vec<u8>, (u64, Refu
 /// number and the due day, or `-` where there is none. `None` after that was written; else the
 /// first line that is refused, counted from 1 with empty lines, and why, with nothing written.
 /// `Io` comes where the reader or the writer answered an error, `Memory` where an allocation was
-/// refused; at `Io` some of the lines may have gone out.
+/// refused; at `Io` the first bytes of the lines, or none, went out.
+#[tactic(auto, using(crate::proofs::Unwritten::none_some))]
 pub fn plan_to<R: Read, W: Write>(
     alloc: Global,
     reader: &mut R,
@@ -132,6 +134,12 @@ pub fn plan_to<R: Read, W: Write>(
     // Where a line is refused, or memory, the writer is not touched.
     ensures untouched { IfOk result (λ refused. IsSome refused → out.new ≡ out.old) }
     ensures unwritten { IfErr result (λ stop. stop ≡ Stop.Memory → out.new ≡ out.old) }
+
+    // Where the reader or the writer fails, nothing but the first of these lines went out.
+    ensures some { OnErr result
+        (IfSome (R.remaining reader.old)
+        (λ bytes. AppendsSome (W.contents out.old) (W.contents out.new)
+        (plan_written (plan_asked bytes)))) }
 {
     let bytes = read_whole(alloc, reader)?;
     match lines_asked(alloc, bytes.as_slice()) {

@@ -24,7 +24,7 @@ resumed_any Reported g t desk it = (it.0, tt, it.2)
 
 content_any : {S : Type 0} (Reported : Response → Type 0) (g : Ghosts S) (t : State) (r : Option ℕ) (desk : DeskState S) → ReportsContent Reported g t r desk → ReportsContent AnyAnswer g t r desk
 content_any Reported g t None desk it = (tt, it.1)
-content_any Reported g t (Some r) desk it = (it.0, tt, it.2)
+content_any Reported g t (Some r) desk it = (it.0, tt, it.2, it.3)
 
 record_any : {S : Type 0} (Reported : Response → Type 0) (g : Ghosts S) (t : State) (r : Option ℕ) (desk : DeskState S) → ReportsRecord Reported g t r desk → ReportsRecord AnyAnswer g t r desk
 record_any Reported g t None desk it = (tt, it.1)
@@ -63,7 +63,7 @@ out_of_memory_leaves g t (acts body) desk (inr served) = (acts body, served)
 out_of_memory_leaves g t (requested path.Resume) desk served = (requested path.Resume, served)
 out_of_memory_leaves g t (requested (path.Record r)) desk out = (cut, (tt, out.1))
 out_of_memory_leaves g t (requested (path.Content None)) desk out = absurd out
-out_of_memory_leaves g t (requested (path.Content (Some r))) desk out = (requested (path.Content (Some r)), (Err out.0, tt, out.1))
+out_of_memory_leaves g t (requested (path.Content (Some r))) desk out = (requested (path.Content (Some r)), (Err out.0, tt, out.1, out.2))
 out_of_memory_leaves g t (requested (path.Due day)) desk out = (cut, (tt, out.1))
 out_of_memory_leaves g t (requested (path.Overdue day count)) desk out = (cut, (tt, out.2))
 out_of_memory_leaves g t (requested (path.Certificate run)) desk out = (cut, (tt, out.1))

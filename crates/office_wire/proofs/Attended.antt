@@ -74,9 +74,9 @@ module _ {S : Type 0} (g : Ghosts S) (t : State) (d : DeskState S) (r : Response
       subst (λ (o : Option ℕ). (r ≡ answer_response (resumed_answer o)) × IsAt g (after_resumed t o) d) (sym it.fits) (is, it.leads)
   run_well (run_stopped f, is, it) = absurd (fault_is r f well is)
 
-  reading_well : (it : Response) → Reports (λ reported. r ≡ reported) g t it d → (r ≡ it) × IsAt g t d
-  reading_well it (inl is, at) = (is, at)
-  reading_well it (inr is, at) = absurd (fault_is r fault.Memory well is)
+  reading_well : (IsThere : Type 0) (it : Response) → Reports (λ reported. r ≡ reported) g t IsThere it d → (r ≡ it) × IsAt g t d
+  reading_well IsThere it (inl is, at) = (is, at)
+  reading_well IsThere it (inr is, at) = absurd (fault_is r fault.Memory well is.0)
 
   content_well : (n : ℕ) (found : Result (Option (List ℕ)) Fault) → r ≡ content_reply found → IsContentRead g t n found d → (r ≡ content_response (get t.contents n)) × IsAt g t d
   content_well n (Ok content) is it = (is ∙ ap (λ (x : Option (List ℕ)). content_response x) (sym (reported_is t n content it.ends.reported)), it.ends.represents)
@@ -92,16 +92,16 @@ module _ {S : Type 0} (g : Ghosts S) (t : State) (d : DeskState S) (r : Response
   request_well (acts body) served = acts_well (acts_in body) served
   request_well (requested path.Resume) served = run_well served
   request_well (requested (path.Record None)) served = served
-  request_well (requested (path.Record (Some n))) served = reading_well _ served
+  request_well (requested (path.Record (Some n))) served = reading_well _ _ served
   request_well (requested (path.Content None)) served = served
-  request_well (requested (path.Content (Some n))) (found, is, it) = content_well n found is it
+  request_well (requested (path.Content (Some n))) (found, is, it, there) = content_well n found is it
   request_well (requested (path.Due None)) served = served
   request_well (requested (path.Due (Some day))) served = rows_well _ served
   request_well (requested (path.Overdue None n)) served = served
   request_well (requested (path.Overdue (Some day) None)) served = served
   request_well (requested (path.Overdue (Some day) (Some n))) served = rows_well _ served
   request_well (requested (path.Certificate None)) served = served
-  request_well (requested (path.Certificate (Some run))) served = reading_well _ served
+  request_well (requested (path.Certificate (Some run))) served = reading_well _ _ served
 
   served_well : (it : OfficeRequest) → IsServed g t it r d → IsAnswer t it r × IsAt g (after_office_request t it) d
   served_well it (inl answered) = request_well it answered

@@ -1,6 +1,6 @@
 -- What is answered to a request, and where the desk is then. Source: own.
 use Rattle.std.specs.FinMap.{get}
-use Rattle.std.specs.Prelude.{◌≡◌, ◌⊎◌, ℕ, ℤ, IfOk, IsSome, IsSomeAnd, IsTrue, List, MatchResult, [], Option, Some, None, Result, Ok, Err}
+use Rattle.std.specs.Prelude.{◌≡◌, ◌⊎◌, ℕ, ℤ, IfOk, IsSome, IsSomeAnd, IsTrue, List, MatchResult, OnErr, [], Option, Some, None, Result, Ok, Err}
 use Rattle.sqlite.specs.Held.{state}
 use Rattle.sqlite_trees.specs.declared.store.Store.{Ghosts}
 use Rattle.office_base.specs.declared.refusal.Refusal.TheVariants as refusal
@@ -14,7 +14,7 @@ use Rattle.office_store.specs.declared.fault.Fault.{Fault}
 use Rattle.office_store.specs.declared.fault.Fault.TheVariants as fault
 use Rattle.office_desk.specs.Contents.{IsContentRead}
 use Rattle.office_desk.specs.Desk.{DeskState}
-use Rattle.office_desk.specs.Leaving.{IsAt}
+use Rattle.office_desk.specs.Leaving.{HasContent, IsAt}
 use Rattle.office_desk.specs.Outcomes.{ActsCameTo, ActsLead, ActsOutcome, all_done, stopped}
 use Rattle.office_desk.specs.Resumptions.{RunCameTo, RunOutcome, none_open, run_closed, run_stopped}
 use Rattle.office_json.specs.Lists.{NoActs, not_json, bad_act, acts_in}
@@ -65,9 +65,17 @@ Resumes Reported g t desk = (o : RunOutcome) × Reported (run_reply o) × RunCam
 
 -- ---- what is reported
 
--- an answer that changes nothing, or lack of memory for it
-abbrev pub Reports : {S : Type 0} → (Response → Type 0) → Ghosts S → State → Response → DeskState S → Type 0
-Reports Reported g t response desk = (Reported response ⊎ Reported (fault_response fault.Memory)) × IsAt g t desk
+-- the office has this record, or a certificate of this run
+abbrev pub HasRecord : State → ℕ → Type 0
+HasRecord t r = IsSome (record_view t.office r)
+
+abbrev pub HasCertificate : State → ℕ → Type 0
+HasCertificate t run = IsSome (get t.office.certificates run)
+
+-- an answer that changes nothing; or, of what is there, lack of memory for it
+abbrev pub Reports : {S : Type 0} → (Response → Type 0) → Ghosts S → State → Type 0 → Response → DeskState S → Type 0
+Reports Reported g t IsThere response desk =
+    (Reported response ⊎ Reported (fault_response fault.Memory) × IsThere) × IsAt g t desk
 
 -- a number or a day that names nothing
 abbrev pub ReportsNone : {S : Type 0} → (Response → Type 0) → Ghosts S → State → Response → DeskState S → Type 0
@@ -76,18 +84,19 @@ ReportsNone Reported g t response desk = Reported response × IsAt g t desk
 abbrev pub ReportsRecord : {S : Type 0} → (Response → Type 0) → Ghosts S → State → Option ℕ → DeskState S → Type 0
 ReportsRecord Reported g t None desk = ReportsNone Reported g t (error_response error.Record) desk
 ReportsRecord Reported g t (Some r) desk =
-    Reports Reported g t (record_response (record_view t.office r) (ending_entry t.office r)) desk
+    Reports Reported g t (HasRecord t r) (record_response (record_view t.office r) (ending_entry t.office r)) desk
 
 -- the answer to the reading of a content that came to this
 abbrev pub content_reply : Result (Option (List ℕ)) Fault → Response
 content_reply (Ok content) = content_response content
 content_reply (Err f) = fault_response f
 
--- the content of the record, or why it is not reported
+-- the content of the record, or that there is none; a fault comes of a content that is there
 abbrev pub ReportsContent : {S : Type 0} → (Response → Type 0) → Ghosts S → State → Option ℕ → DeskState S → Type 0
 ReportsContent Reported g t None desk = ReportsNone Reported g t (error_response error.Content) desk
 ReportsContent Reported g t (Some r) desk =
     (found : Result (Option (List ℕ)) Fault) × Reported (content_reply found) × IsContentRead g t r found desk
+    × OnErr found (HasContent t.office.tree r)
 
 abbrev pub ReportsDue : {S : Type 0} → (Response → Type 0) → Ghosts S → State → Option ℤ → DeskState S → Type 0
 ReportsDue Reported g t None desk = ReportsNone Reported g t (error_response error.Day) desk
@@ -107,7 +116,7 @@ ReportsOverdue Reported g t (Some day) (Some n) desk =
 abbrev pub ReportsCertificate : {S : Type 0} → (Response → Type 0) → Ghosts S → State → Option ℕ → DeskState S → Type 0
 ReportsCertificate Reported g t None desk = ReportsNone Reported g t (error_response error.Certificate) desk
 ReportsCertificate Reported g t (Some run) desk =
-    Reports Reported g t (certificate_response (get t.office.certificates run)) desk
+    Reports Reported g t (HasCertificate t run) (certificate_response (get t.office.certificates run)) desk
 
 -- ---- what the code answers
 
@@ -186,18 +195,19 @@ TakesMemory (requested (path.Overdue day n)) = IsSome day × IsSome n
 TakesMemory (requested (path.Certificate run)) = IsSome run
 
 -- memory ran out for its answer: what it asks for was done, but for acts that could not be read; of a content only the
--- answer to a fault takes memory
+-- answer to a fault takes memory, and the answer that nothing is there takes none
 abbrev pub RunsOutOfMemory : {S : Type 0} → Ghosts S → State → OfficeRequest → DeskState S → Type 0
 RunsOutOfMemory g t (refused check) desk = ⊥
 RunsOutOfMemory g t cut desk = ⊥
 RunsOutOfMemory g t (acts body) desk = IsAt g t desk ⊎ PerformsActs AnyAnswer g t (acts_in body) desk
 RunsOutOfMemory g t (requested path.Resume) desk = Resumes AnyAnswer g t desk
-RunsOutOfMemory g t (requested (path.Record r)) desk = IsSome r × IsAt g t desk
+RunsOutOfMemory g t (requested (path.Record number)) desk = IsSomeAnd number (λ r. HasRecord t r) × IsAt g t desk
 RunsOutOfMemory g t (requested (path.Content number)) desk =
-    IsSomeAnd number (λ r. (f : Fault) × IsContentRead g t r (Err f) desk)
+    IsSomeAnd number (λ r. (f : Fault) × IsContentRead g t r (Err f) desk × HasContent t.office.tree r)
 RunsOutOfMemory g t (requested (path.Due day)) desk = IsSome day × IsAt g t desk
 RunsOutOfMemory g t (requested (path.Overdue day n)) desk = IsSome day × IsSome n × IsAt g t desk
-RunsOutOfMemory g t (requested (path.Certificate run)) desk = IsSome run × IsAt g t desk
+RunsOutOfMemory g t (requested (path.Certificate number)) desk =
+    IsSomeAnd number (λ run. HasCertificate t run) × IsAt g t desk
 
 -- ---- calls at a desk
 

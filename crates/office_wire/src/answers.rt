@@ -1,6 +1,6 @@
 //! What a request asks for is done at the desk, and answered.
 ghost use Rattle.std.specs.FinMap.{get};
-ghost use Rattle.std.specs.Prelude.{◌≡◌, ◌⊎◌, IfErr, IfOk, IsTrue, false, option_map, string_bytes};
+ghost use Rattle.std.specs.Prelude.{◌≡◌, ◌⊎◌, IfErr, IfOk, IsSome, IsTrue, OnErr, false, option_map, string_bytes};
 ghost use Rattle.office_rules.specs.Readings.{ending_entry, record_view};
 ghost use Rattle.office_wire.specs.Answering.{ArePerformedBy, IsAnswered, IsPerformed, IsRead, IsReportedOf};
 ghost use Rattle.office_http.specs.Receiving.{acts, request_of_kind, requested};
@@ -65,6 +65,10 @@ fn read_record<S: Alter>(desk: &Desk<S>, record_no: RecordNo) -> Result<Option<R
     ensures ok { IfOk result (λ reported. IsReportedOf desk.now.office record_no reported) }
     ensures err { IfErr result (λ fault. (fault ≡ Fault.Memory) ⊎ IsTrue desk.now.is_poisoned) }
     ensures gone { IsTrue desk.now.is_poisoned → result ≡ Err Fault.Reopen }
+
+    // That a record is not there takes no memory.
+    ensures absent { OnErr result
+        (desk.now.is_poisoned ≡ false → IsSome (record_view desk.now.office record_no)) }
 {
     match desk.record(record_no)? {
         None => Ok(None),

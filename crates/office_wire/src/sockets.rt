@@ -1,5 +1,6 @@
 //! Connections over TCP.
-ghost use Rattle.std.specs.Prelude.{◌≡◌, IfOk, Ok};
+ghost use Rattle.std.specs.Prelude.{◌≡◌, [], IfOk, Ok, OnOk};
+ghost use Rattle.std.specs.Io.Buffered.{writer_buffer};
 
 use crate::connection_source::ConnectionSource;
 use office_base::{Io, is_interrupted};
@@ -102,14 +103,17 @@ where
     }
 }
 
-/// Closes a connection after its answer, which goes out here.
-fn closed<C: Read + Write + OpenStream + Drop, K: Clock>(
-    sides: Sides<'_, C, K>,
+/// Sends out the rest of a connection's answer, and shuts the connection down.
+fn closed<'a, C: Read + Write + OpenStream + Drop, K: Clock>(
+    reader: DeadlineStream<'a, C, K>,
+    writer: &mut BufWriter<DeadlineStream<'a, C, K>>,
     served: Result<u16, Io>,
 ) -> Result<u16, Io>
-    ensures { IfOk result (λ code. served ≡ Ok code) }
+    ensures status { IfOk result (λ code. served ≡ Ok code) }
+
+    // It succeeds only if the buffer was sent out.
+    ensures sent { OnOk result (writer_buffer writer.new ≡ []) }
 {
-    let (reader, mut writer) = sides;
     let status = served?;
     if writer.flush().is_err() {
         return Err(Io);
@@ -144,10 +148,10 @@ where
     fn close(
         &mut self,
         reader: Self::Reader,
-        writer: Self::Writer,
+        mut writer: Self::Writer,
         served: Result<u16, Io>,
     ) -> Result<u16, Io> {
-        let status = closed((reader, writer), served);
+        let status = closed(reader, &mut writer, served);
         if status.is_err() {
             report_failure(&mut self.err);
         }
