@@ -25,7 +25,6 @@ use std::io::{Read, Write};
 
 /// Reports the port of this machine at which a service listens, and sends the line out. `Io` means
 /// that the writer returned an error, and then the first bytes of the line went out, or none.
-#[tactic(auto, using(office_base::proofs::Written::kept_some))]
 pub fn report_listening<W: Write>(port: u16, out: &mut W) -> Result<(), Io>
     ensures ok { OnOk result
         (Appends (W.contents out.old) (W.contents out.new) (listening_line port)) }
