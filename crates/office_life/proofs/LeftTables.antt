@@ -27,7 +27,6 @@ use Rattle.sqlite.proofs.FileLemmas.{is_something}
 use Rattle.office_rules.specs.State.{State}
 use Rattle.office_life.specs.Standing.{IsKnownAt, NeverLies, Stage, StandsAt, half_made, outcomes_left, remains_of, stage_after, stored, unmade}
 use Rattle.office_life.specs.Tables.{ContainTables}
-use Rattle.office_life.specs.declared.reports.Remains.{Remains}
 use Rattle.office_life.specs.declared.reports.Remains.TheVariants as remains
 
 -- files that hold tables hold a database
