@@ -21,8 +21,8 @@ use Rattle.office_life.specs.declared.reports.Task.TheVariants as task
 
 -- ---- one stint
 
--- how many were done of acts or steps that a fault stopped after so many answers: at Memory these, at Reopen one more, at
--- Store one or the other
+-- how many acts or steps were done if a fault stopped them after n answers: at Memory n, at Reopen one more, at Store
+-- one or the other
 abbrev pub AreDoneAt : Fault → (answered done : ℕ) → Type 0
 AreDoneAt fault.Memory n k = k ≡ n
 AreDoneAt fault.Store n k = (k ≡ n) ⊎ (k ≡ n + 1)

@@ -25,8 +25,8 @@ use Rattle.office_life.specs.declared.finding.FindStop.TheVariants as stop
 -- ---- two files
 
 module _ {D : Type 0} {g : Ghosts D} where
-  -- a call of the disk failed during the opening, and the error names how; a store counts a limit that was met as such a
-  -- call
+  -- a call of the disk failed during the opening, and the error names how; a store counts a limit that was met as such
+  -- a call
   pub record HasFailed (files : Files D) (rest : Leftover D g) (e : Error) : Type 0 where
     pub names : e ≡ store_error (named (tally_of_files g (files.log, files.db)) (tally_left rest))
     pub counts : MoreFaults (faults_of g files) (faults_left rest)
@@ -40,15 +40,16 @@ module _ {D : Type 0} {g : Ghosts D} where
   abbrev pub StopsOpening : Files D → Leftover D g → Error → Type 0
   StopsOpening files rest e = (e ≡ SqliteFailure OutOfMemory) ⊎ (HasFailed files rest e ⊎ MeetsLimit rest e)
 
-  -- the files were not opened, by this error, and this is left of them; if they stand for an office, they were not refused
+  -- the files were not opened, by this error, and this is left of them; if they stand for an office, they were not
+  -- refused
   pub record AreUnopened (files : Files D) (rest : Leftover D g) (e : Error) : Type 0 where
     pub leaves : LeavesFiles files rest
     pub stops : (stage : Stage) (s : State) → StandsAt stage (image_of g files) s → StopsOpening files rest e
 
 -- ---- the office in them
 
--- the faults by which the opening of an office at this state may stop: memory ran out, or a call of the database failed;
--- the tables are damaged only if a certificate is no text
+-- the faults by which the opening of an office at this state may stop: memory ran out, or a call of the database
+-- failed; the tables are damaged only if a certificate is no text
 abbrev pub StopsOffice : State → Fault → Type 0
 StopsOffice s fault.Memory = Unit {0}
 StopsOffice s fault.Store = Unit {0}

@@ -1,4 +1,4 @@
--- What the reports of stints tell of the files that each was given and left. Source: own.
+-- What the reports of stints say of the files that each was given and left. Source: own.
 use Rattle.std.specs.Prelude.{◌≡◌, ◌⊎◌, IsTrue, List, [], ◌∷◌, false}
 use Rattle.sqlite_disk.specs.Disk.{MoreFaults}
 use Rattle.sqlite_disk.specs.declared.Disk.{Ghosts}
@@ -46,18 +46,19 @@ module _ {D : Type 0} {g : Ghosts D} where
   AreClosed Was remains.Shut (left.Store store) = (before : FileStore D g) × Was before × IsShut before store
   AreClosed Was remains rest = ⊥
 
-  -- whatever tables a crash leaves of a store, a stint that ended so leads to them from the state for which its files stood
+  -- the store with which a stint worked: whatever tables a crash leaves of it, the stint leads to them from the state
+  -- for which its files stood
   abbrev pub IsWorkedOn : Task → StintEnd → Files D → FileStore D g → Type 0
-  IsWorkedOn asked ended files store =
+  IsWorkedOn task ended files store =
       (stage : Stage) (s : State) → StandsAt stage (image_of g files) s
-      → (db : Trees) → recovers store db → (u : State) × Leads asked ended s u × AreTablesAt db u
+      → (db : Trees) → recovers store db → (u : State) × Leads task ended s u × AreTablesAt db u
 
-  -- a stint reports so of the files that it was given and of what is left of them: they were not opened, or they were
-  -- closed
+  -- a report agrees with the files that its stint was given and with what is left of them: they were not opened, or
+  -- they were closed
   abbrev pub IsTold : Task → Report → Files D → Leftover D g → Type 0
-  IsTold asked report files rest =
+  IsTold task report files rest =
       ((e : Error) × (report.end ≡ end.FilesShut e) × (report.remains ≡ remains_of rest) × AreUnopened files rest e)
-      ⊎ (WereOpened report.end × AreClosed (IsWorkedOn asked report.end files) report.remains rest)
+      ⊎ (WereOpened report.end × AreClosed (IsWorkedOn task report.end files) report.remains rest)
 
   -- files that a crash made of what was left
   abbrev pub IsCrashed : Leftover D g → Files D → Type 0
@@ -66,7 +67,7 @@ module _ {D : Type 0} {g : Ghosts D} where
 -- one after another, each on what a crash made of the files that the one before left
 abbrev pub AreTold : {D : Type 0} (g : Ghosts D) → Files D → List Task → List Report → Files D → Type 0
 AreTold g files [] [] last = last ≡ files
-AreTold {D} g files (asked ∷ tasks) (report ∷ reports) last =
-    (rest : Leftover D g) × (later : Files D) × IsTold asked report files rest × IsCrashed rest later
+AreTold {D} g files (task ∷ tasks) (report ∷ reports) last =
+    (rest : Leftover D g) × (later : Files D) × IsTold task report files rest × IsCrashed rest later
     × AreTold g later tasks reports last
 AreTold g files tasks reports last = ⊥

@@ -15,8 +15,8 @@ use sqlite::{Connection, FileStore, Files, Leftover};
 use sqlite_disk::Disk;
 use sqlite_trees::store::Store;
 
-/// Copies the log into the database file, if the store is open. Tells whether the store was not
-/// shut by that.
+/// Copies the log into the database file, if the store is open. Returns false if that shut the
+/// store.
 fn copy<D: Disk>(store: &mut FileStore<D>) -> bool
     ensures shut { NeverLies D.Disk → result ≡ false → IsShut store.old store.new }
     ensures fewer { (db : Trees) → recovers store.new db → recovers store.old db }
@@ -32,7 +32,7 @@ fn copy<D: Disk>(store: &mut FileStore<D>) -> bool
     }
 }
 
-/// Closes a connection, and gives its files back; or the store over them, if the closing failed and
+/// Closes a connection, and returns its files; or the store over them, if the closing failed and
 /// shut it.
 fn files_of<D: Disk + Drop>(conn: Connection<FileStore<D>>) -> Result<Files<D>, FileStore<D>>
     ensures clean { NeverLies D.Disk → HasCleanDisk (file_state conn) }
@@ -49,7 +49,7 @@ fn files_of<D: Disk + Drop>(conn: Connection<FileStore<D>>) -> Result<Files<D>, 
     }
 }
 
-/// Closes a connection, whatever became of it. Tells what is known of its files, with what is left
+/// Closes a connection, whatever became of it. Returns what is known of its files, and what is left
 /// of them: the two files, or the store that the closing shut.
 pub fn close<D: Disk + Drop>(conn: Connection<FileStore<D>>) -> (Remains, Leftover<D>)
     ensures clean { NeverLies D.Disk → HasCleanDisk (file_state conn) }

@@ -71,9 +71,8 @@ pub fn find<D: Disk + Drop>(
     }
 }
 
-/// Files that stand for an office are not refused, and neither is the office in them: of what the
-/// database and the desk answer to an opening only lack of memory, a limit, and a call that failed
-/// are left.
+/// Files that stand for an office are not refused, and neither is the office in them: the database
+/// and the desk fail to open them only for lack of memory, at a limit, or since a call failed.
 pub fn law_of_openings<D: Disk>()
     ensures files { AreNotRefused D.Disk }
     ensures office { IsNotRefused D.Disk }

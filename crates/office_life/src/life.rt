@@ -44,7 +44,8 @@ fn run<D: Crash + Drop>(
         → AreKnownFrom stage r.0.items
         → FilesLead stage (stage_at_end stage r.0.items) (LeadsOn tasks.now r.0.items)
         (outcomes D.Disk files.log files.db) (outcomes D.Disk r.1.log r.1.db)) }
-    ensures told { NeverLies D.Disk → IfOk result (λ r. AreTold D.Disk files tasks.now r.0.items r.1) }
+    ensures told { NeverLies D.Disk
+        → IfOk result (λ r. AreTold D.Disk files tasks.now r.0.items r.1) }
 {
     let mut reports = Vec::new(alloc);
     for task in tasks {
@@ -73,7 +74,8 @@ pub fn live<D: Crash + Drop>(
         → AreKnownFrom stage r.0.items
         → FilesLead stage (stage_at_end stage r.0.items) (IsAfterLife tasks.now r.0.items)
         (outcomes D.Disk files.log files.db) (outcomes D.Disk r.1.log r.1.db)) }
-    ensures told { NeverLies D.Disk → IfOk result (λ r. AreTold D.Disk files tasks.now r.0.items r.1) }
+    ensures told { NeverLies D.Disk
+        → IfOk result (λ r. AreTold D.Disk files tasks.now r.0.items r.1) }
 {
     law_of_soundness();
     law_of_fates();

@@ -38,8 +38,9 @@ pub fn remains_by<D: Disk>(rest: &Leftover<D>) -> Remains
     }
 }
 
-/// Opens the two files of an office, or gives the error and what is left of them. Files that stand
-/// for an office are not refused: memory ran out, a call of the disk failed, or a limit was met.
+/// Opens the two files of an office, or returns the error and what is left of them. Files that
+/// stand for an office are not refused: memory ran out, a call of the disk failed, or a limit was
+/// met.
 pub fn open<D: Disk + Drop>(
     alloc: Global,
     files: Files<D>,

@@ -71,7 +71,7 @@ fn tables_behind<S: Alter + Drop>(alloc: Global, desk: Desk<S>) -> Result<String
     all_selected(alloc, &mut conn)
 }
 
-/// Says why no office is found.
+/// Names the reason why no office is found.
 fn unfound<D: Disk>(stop: &FindStop<D>) -> Fail {
     match stop {
         FindStop::Files(error, _) => Fail::new(format_args!("no office is found: {error:?}")),
