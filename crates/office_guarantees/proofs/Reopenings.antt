@@ -15,6 +15,6 @@ module _ {D : Type 0} {g : Ghosts D} where
       → (left : Option (Leftover D g)) → IfSome left (λ rest. (files : Files D) × A files × B files × (IsCleanLeft rest → FailsToOpenFiles files rest e × LeavesFiles files rest))
       → IfSome left (IsHinderedAlone image e)
   hindered_alone not image e A B fresh None cause = tt
-  hindered_alone not image e A B fresh (Some rest) (files, log, db, fails) clean stage s stands =
-      let same = fresh files log db in
-      (files, same, not files rest e stage s (subst (λ (is : Image). StandsAt stage is s) (sym same) stands) (fails clean).0)
+  hindered_alone not image e A B fresh (Some rest) cause =
+      let same = fresh cause.0 cause.1 cause.2 in
+      λ clean stage s stands. (cause.0, same, not cause.0 rest e stage s (subst (λ (is : Image). StandsAt stage is s) (sym same) stands) (cause.3 clean).0)
