@@ -71,7 +71,7 @@ module _ (stay : StaySound) (last : CertificatesLast) where
   printed_last s u run file text written after (inr (inl (None, is, (says, silent)), same)) = let no : how.Done ≡ how.Refused refused.NoSuch = says in absurd cc
   printed_last s u run file text written after (inr (inl (Some body, is, inl (out, done)), same)) = (body, out, ap (λ (x : State). get x.office.certificates run) same ∙ is)
   printed_last s u run file text written after (inr (inl (Some body, is, inr (some, failed)), same)) = let no : how.Done ≡ how.File = failed in absurd cc
-  printed_last s u run file text written after (inr (inr (says, rest), same)) = let no : how.Done ≡ how.Fault fault.Memory = says in absurd cc
+  printed_last s u run file text written after (inr (inr (says, silent, there), same)) = let no : how.Done ≡ how.Fault fault.Memory = says in absurd cc
 
   module _ (s : State) (sound : IsSound s) (run : ℕ) (file text : List ℕ) (written after : Option (List ℕ)) where
     abbrev printing : ProgramRun

@@ -4,6 +4,8 @@
 //! waits for it.
 #![tactic(auto)]
 
+mod reopening;
 mod true_files;
 
+pub use reopening::law_of_reopening;
 pub use true_files::law_of_true_files;
