@@ -12,8 +12,6 @@ mod life;
 mod reports;
 mod serving;
 mod stints;
-#[cfg(test)]
-mod tests;
 
 pub use life::live_with_requests;
 pub use reports::{Errand, LifeReport, RequestsEnd, RequestsReport};
