@@ -9,9 +9,9 @@ use office_life::law_of_openings;
 use sqlite::{Error, FileFrom, Leftover, Start};
 
 /// An office's file opens again. `refused` is what the database returned in place of a connection,
-/// and the file stood for an office. Then memory ran out, a call of the disk failed in that opening,
-/// or a limit of the format was met: the file is never refused as no database, as damaged or as of
-/// another version. If nothing is left of the file, the system refused to open it.
+/// and the file stood for an office. Then memory ran out, a call of the disk failed in that opening
+/// (also a read whose bytes do not have their digest), or a limit of the format was met. The file is
+/// never refused as no database. If nothing is left of the file, the system refused to open it.
 ///
 /// That the office in a file that was opened is not refused either is `office_life::find`: `why`.
 pub fn law_of_reopening<S: Start>(refused: &(Error, Option<Leftover<FileFrom<S>>>))
