@@ -6,6 +6,7 @@ use Rattle.sqlite_trees.specs.Tree.{Trees}
 use Rattle.sqlite_trees.specs.declared.store.Store.{Ghosts}
 use Rattle.office_base.specs.declared.output.Io.{Io}
 use Rattle.office_rules.specs.Acts.{after as after_acts}
+use Rattle.office_rules.specs.Forms.{AreWellFormed}
 use Rattle.office_rules.specs.Rows.{rows_of}
 use Rattle.office_rules.specs.Runs.{after_steps, candidates, whole}
 use Rattle.office_rules.specs.Sound.{IsSound}
@@ -19,7 +20,6 @@ use Rattle.office_store.specs.declared.fault.Fault.{Fault}
 use Rattle.office_store.specs.declared.fault.Fault.TheVariants as fault
 use Rattle.office_desk.specs.Contents.{IsContentRead}
 use Rattle.office_desk.specs.Desk.{DeskState}
-use Rattle.office_desk.specs.Headline.{AreWellFormed}
 use Rattle.office_desk.specs.Leaving.{IsAt, StopsAt, StopsLeaving}
 use Rattle.office_desk.specs.Outcomes.{ActsCameTo, ActsLead, ActsOutcome, all_done, stopped}
 use Rattle.office_desk.specs.Resumptions.{none_open, run_closed, run_stopped}

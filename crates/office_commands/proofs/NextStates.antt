@@ -10,7 +10,7 @@ use Rattle.sqlite.specs.State.{State as FileState, HasCleanDisk}
 use Rattle.office_base.specs.declared.refusal.Refusal.{Refusal}
 use Rattle.office_base.specs.declared.refusal.Refusal.TheVariants as refused
 use Rattle.office_rules.specs.Acts.{after as after_acts, answers, step}
-use Rattle.office_rules.specs.Forms.{IsWellFormedAct}
+use Rattle.office_rules.specs.Forms.{AreWellFormed, IsWellFormedAct}
 use Rattle.office_rules.specs.Rows.{rows_of}
 use Rattle.office_rules.specs.Runs.{after_steps, candidates, open_run, whole}
 use Rattle.office_rules.specs.Sound.{IsSound}
@@ -24,7 +24,6 @@ use Rattle.office_sql.specs.Office.{IsAtRestOver, IsOfficeIn}
 use Rattle.office_store.specs.RepresentsRows.{ContainsRows, RepresentsRows, RepresentsRowsIn}
 use Rattle.office_store.specs.declared.fault.Fault.{Fault}
 use Rattle.office_store.specs.declared.fault.Fault.TheVariants as fault
-use Rattle.office_desk.specs.Headline.{AreWellFormed}
 use Rattle.office_desk.specs.Leaving.{StopsLeaving}
 use Rattle.office_desk.specs.Opening.{RepresentIn}
 use Rattle.office_desk.specs.Outcomes.{ActsCameTo, ActsOutcome, all_done, answers_of, stopped}

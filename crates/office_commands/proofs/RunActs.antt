@@ -5,13 +5,13 @@ use Rattle.std.specs.Prelude.{◌⊎◌, option_map}
 use Rattle.csv.specs.Reading.{strip_bom}
 use Rattle.office_base.specs.declared.refusal.Refusal.{Refusal}
 use Rattle.office_rules.specs.Acts.{after as after_acts}
+use Rattle.office_rules.specs.Forms.{AreWellFormed}
 use Rattle.office_rules.specs.Sound.{IsSound}
 use Rattle.office_rules.specs.State.{State}
 use Rattle.office_rules.specs.declared.act.Act.{Act}
 use Rattle.office_rules.specs.declared.answer.Answer.{Answer}
 use Rattle.office_desk.specs.Fates.{AreContentsAfter}
 use Rattle.office_desk.proofs.Found.{after-append}
-use Rattle.office_desk.specs.Headline.{AreWellFormed}
 use Rattle.office_desk.specs.Resuming.{AreRunSteps}
 use Rattle.office_desk.specs.Outcomes.{ActsOutcome, all_done, stopped}
 use Rattle.office_commands.proofs.NextService.{formed-append, well_formed_steps}

@@ -17,12 +17,12 @@ use Rattle.sqlite.specs.State.{State as FileState}
 use Rattle.sqlite.specs.declared.file.Leftover.{Leftover}
 use Rattle.sqlite.specs.declared.file.Leftover.TheVariants as leftover
 use Rattle.office_rules.specs.Acts.{after as after_acts, answers}
+use Rattle.office_rules.specs.Forms.{AreWellFormed}
 use Rattle.office_rules.specs.Runs.{after_steps, open_run, whole}
 use Rattle.office_rules.specs.State.{State}
 use Rattle.office_rules.specs.declared.act.Act.{Act}
 use Rattle.office_rules.specs.declared.answer.Answer.{Answer}
 use Rattle.office_store.specs.declared.fault.Fault.{Fault}
-use Rattle.office_desk.specs.Headline.{AreWellFormed}
 use Rattle.office_desk.specs.Outcomes.{ActsOutcome, CanComeTo, all_done, answered_acts, answers_of, stopped}
 use Rattle.office_desk.specs.Resumptions.{IsRunOf, RunOutcome, none_open, run_closed, run_stopped}
 use Rattle.office_life.specs.Tables.{ContainTables, IsOfficeAt}

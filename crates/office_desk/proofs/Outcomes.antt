@@ -4,6 +4,7 @@ use Rattle.std.proofs.Math.Seq.{drop-append_seam}
 use Rattle.std.proofs.lemmas.List.{length-take-le}
 use Rattle.sqlite.specs.State as sqlite
 use Rattle.office_rules.specs.Acts.{after, answers, step}
+use Rattle.office_rules.specs.Forms.{AreWellFormed}
 use Rattle.office_rules.specs.Runs.{IsMidway}
 use Rattle.office_rules.specs.Sound.{IsSound}
 use Rattle.office_rules.specs.State.{State}
@@ -12,7 +13,6 @@ use Rattle.office_rules.specs.declared.answer.Answer.{Answer}
 use Rattle.office_store.specs.declared.fault.Fault.{Fault}
 use Rattle.office_store.proofs.Saved.{offices_at_rest}
 use Rattle.office_desk.specs.Desk.{DeskState}
-use Rattle.office_desk.specs.Headline.{AreWellFormed}
 use Rattle.office_desk.specs.Leaving.{LeavesOne, StopsAt, StopsLeaving}
 use Rattle.office_desk.specs.Outcomes.{ActsCameTo, ActsLeave, ActsOutcome, AreAnswered, CanComeTo, IsActAnswered, act_outcome, acts_outcome, all_done, answered_acts, answers_of, stopped}
 use Rattle.office_desk.proofs.LeftFates.{AreFatesReported, fates_at, fates_done, one_left}

@@ -16,8 +16,7 @@ use Rattle.office_store.specs.declared.fault.Fault.TheVariants as fault
 use Rattle.office_sql.specs.Office.{Leaves, SparesRest}
 use Rattle.office_desk.specs.Calling.{IsPoisoned}
 use Rattle.office_desk.specs.Desk.{DeskState}
-use Rattle.office_rules.specs.Forms.{IsWellFormedAct}
-use Rattle.office_desk.specs.Headline.{AreWellFormed}
+use Rattle.office_rules.specs.Forms.{AreWellFormed, IsWellFormedAct}
 use Rattle.office_desk.specs.Leaving.{IsAt, StopsAt, StopsLeaving}
 use Rattle.office_desk.specs.Outcomes.{ActsLeave, AreAnswered, ContainsState, FromEach, IsActAnswered, SparesTheRest, acts_outcome}
 use Rattle.office_desk.proofs.LeftFates.{none_left}

@@ -2,8 +2,8 @@
 ghost use Rattle.std.specs.Prelude.{◌≡◌, Err, IsTrue, MatchResult, [], ◌∷◌, ◌++◌, false};
 ghost use Rattle.sqlite.specs.Held.{state};
 ghost use Rattle.office_rules.specs.Acts.{CanBeMade};
+ghost use Rattle.office_rules.specs.Forms.{AreWellFormed};
 ghost use Rattle.office_rules.specs.State.{State};
-ghost use Rattle.office_desk.specs.Headline.{AreWellFormed};
 ghost use Rattle.office_desk.specs.Calling.{ChangeLeaves, IsMade, IsNotMade, IsPoisoned};
 ghost use Rattle.office_desk.specs.Outcomes.{ActsCameTo, ActsLeave, AreAnswered, FromEach, IsActAnswered, SparesTheRest, act_outcome, acts_outcome};
 

@@ -13,6 +13,7 @@ use Rattle.office_records.specs.declared.status.Status.TheVariants as status
 use Rattle.office_records.proofs.Places.{numbered_within}
 use Rattle.office_rules.specs.Acts.{answers}
 use Rattle.office_rules.specs.Disposing.{is_ready, may_begin, ready_by}
+use Rattle.office_rules.specs.Forms.{AreWellFormed}
 use Rattle.office_rules.specs.Holds.{is_held}
 use Rattle.office_rules.specs.Meanings.{IsCandidate}
 use Rattle.office_rules.specs.Runs.{cursor_of, next_ready, run_day}
@@ -26,7 +27,7 @@ use Rattle.office_rules.specs.declared.outcome.Outcome.TheVariants as outcome
 use Rattle.office_rules.specs.declared.run.Run.{Run}
 use Rattle.office_rules.proofs.Candidates.{next_is_least, none_is_candidate}
 use Rattle.office_rules.proofs.SoundMaps.{one_there}
-use Rattle.office_evidence.specs.History.{AreWellFormed, IsStepAt, before}
+use Rattle.office_evidence.specs.History.{IsStepAt, before}
 use Rattle.office_evidence.specs.Truth.{CameTo, IsBetween, IsWarranted, WasDue, WasReady}
 use Rattle.office_evidence.proofs.Openings.{IsRun, after_opening, has_run, is_this}
 use Rattle.office_evidence.proofs.Passing.{DidPass, HasPassed, passed_comes}

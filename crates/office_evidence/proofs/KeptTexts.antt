@@ -4,6 +4,7 @@ use Rattle.std.specs.Prelude.{IsUtf8}
 use Rattle.std.specs.FinMap.{get}
 use Rattle.office_records.proofs.Places.{numbered_within}
 use Rattle.office_rules.specs.Acts.{after}
+use Rattle.office_rules.specs.Forms.{AreWellFormed}
 use Rattle.office_rules.specs.Runs.{certificate_of, open_run}
 use Rattle.office_rules.specs.Sound.{IsSound}
 use Rattle.office_rules.specs.State.{State, empty_state}
@@ -11,7 +12,7 @@ use Rattle.office_rules.specs.declared.act.Act.{Act}
 use Rattle.office_rules.proofs.SoundEmpty.{sound_empty}
 use Rattle.office_rules.proofs.SoundMaps.{is_there}
 use Rattle.office_rules.proofs.SoundRuns.{open_there}
-use Rattle.office_evidence.specs.History.{AreWellFormed, before}
+use Rattle.office_evidence.specs.History.{before}
 use Rattle.office_evidence.specs.Texts.{AreCertificatesUtf8}
 use Rattle.office_evidence.proofs.CertificateTexts.{certificate_utf8}
 use Rattle.office_evidence.proofs.Coming.{DidClose, certificate_comes}

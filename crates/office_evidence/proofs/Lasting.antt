@@ -10,6 +10,7 @@ use Rattle.office_records.proofs.Places.{length-edited}
 use Rattle.office_rules.specs.Acts.{after}
 use Rattle.office_rules.specs.Disposing.{entry_of, outcome_of}
 use Rattle.office_rules.specs.Effects.{new_head, new_run, with_new_record}
+use Rattle.office_rules.specs.Forms.{AreWellFormed}
 use Rattle.office_rules.specs.Runs.{closed, cursor_of, entries_with, open_run, with_outcomes}
 use Rattle.office_rules.specs.Sound.{IsSound}
 use Rattle.office_rules.specs.State.{State}
@@ -22,7 +23,6 @@ use Rattle.office_rules.proofs.OpenRun.{length-runs}
 use Rattle.office_rules.proofs.SoundMaps.{edited_here, edited_elsewhere, entry_total, entry_cmp-IsAntisymmetric, is_there, one_there, pushed_keeps, put_elsewhere, same_or_not}
 use Rattle.office_rules.proofs.SoundRuns.{open_there}
 use Rattle.office_rules.proofs.SoundTaken.{taken}
-use Rattle.office_evidence.specs.History.{AreWellFormed}
 use Rattle.office_evidence.proofs.ActKinds.{IsAlike, KeepsHeads, kind_of, more_heads}
 use Rattle.office_evidence.proofs.ActKinds.Kind.{adds, closes, opens, quiet, takes}
 use Rattle.office_evidence.proofs.Places.{Lasts, before_end, lasts}

@@ -5,13 +5,14 @@ use Rattle.std.proofs.lemmas.Bool.{cases_lt}
 use Rattle.std.specs.FinMap.{get}
 use Rattle.office_records.proofs.Places.{numbered_within}
 use Rattle.office_rules.specs.Acts.{after}
+use Rattle.office_rules.specs.Forms.{AreWellFormed}
 use Rattle.office_rules.specs.Runs.{open_run}
 use Rattle.office_rules.specs.Sound.{IsSound}
 use Rattle.office_rules.specs.State.{State}
 use Rattle.office_rules.specs.declared.act.Act.{Act}
 use Rattle.office_rules.proofs.SoundMaps.{is_there}
 use Rattle.office_rules.proofs.SoundRuns.{open_there}
-use Rattle.office_evidence.specs.History.{AreWellFormed, IsClosedAt, IsOpenedAt, before}
+use Rattle.office_evidence.specs.History.{IsClosedAt, IsOpenedAt, before}
 use Rattle.office_evidence.proofs.Coming.{DidClose, DidOpen, certificate_comes, run_comes}
 use Rattle.office_evidence.proofs.Lasting.{HasCertificate, HasRun, HasRuns, run_lasts, runs_last}
 use Rattle.office_evidence.proofs.Places.{answered_at, before_end, came, lasts_from, next_at}

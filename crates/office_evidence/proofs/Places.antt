@@ -3,13 +3,13 @@ use Rattle.std.proofs.Common.{◌≡◌, ◌⊎◌, inl, inr, ℕ, zero, suc, �
 use Rattle.std.specs.Prelude.{slice_get}
 use Rattle.std.proofs.Math.Seq.{take-length}
 use Rattle.office_rules.specs.Acts.{after, answers, step}
-use Rattle.office_rules.specs.Forms.{IsWellFormedAct}
+use Rattle.office_rules.specs.Forms.{AreWellFormed, IsWellFormedAct}
 use Rattle.office_rules.specs.Sound.{IsSound}
 use Rattle.office_rules.specs.State.{State}
 use Rattle.office_rules.specs.declared.act.Act.{Act}
 use Rattle.office_rules.specs.declared.answer.Answer.{Answer}
 use Rattle.office_rules.proofs.StepSound.{sound_step}
-use Rattle.office_evidence.specs.History.{AreWellFormed, before}
+use Rattle.office_evidence.specs.History.{before}
 
 -- the state before the place behind the last act is the one after all acts
 pub before_end : (s : State) (acts : List Act) → before s acts (length acts) ≡ after s acts

@@ -3,12 +3,13 @@ use Rattle.std.proofs.Common.{◌≡◌, inl, inr, ℕ, suc, ◌<◌, List, leng
 use Rattle.std.specs.FinMap.{get}
 use Rattle.office_records.specs.Lists.{numbered}
 use Rattle.office_rules.specs.Acts.{after}
+use Rattle.office_rules.specs.Forms.{AreWellFormed}
 use Rattle.office_rules.specs.Sound.{IsSound}
 use Rattle.office_rules.specs.State.{State, Office, empty_state}
 use Rattle.office_rules.specs.declared.act.Act.{Act}
 use Rattle.office_rules.specs.declared.entry.Entry.{Entry}
 use Rattle.office_rules.proofs.SoundEmpty.{sound_empty}
-use Rattle.office_evidence.specs.History.{AreWellFormed, before}
+use Rattle.office_evidence.specs.History.{before}
 use Rattle.office_evidence.specs.Truth.{IsTrueEntry}
 use Rattle.office_evidence.proofs.Coming.{DidOpen, DidTake, entry_comes, run_comes}
 use Rattle.office_evidence.proofs.Lasting.{HasEntry, HasRun, HasRuns, run_lasts}

@@ -12,6 +12,7 @@ use Rattle.office_records.specs.declared.status.Status.{Status}
 use Rattle.office_records.specs.declared.status.Status.TheVariants as status
 use Rattle.office_records.proofs.Places.{numbered_within}
 use Rattle.office_rules.specs.Disposing.{entry_of}
+use Rattle.office_rules.specs.Forms.{AreWellFormed}
 use Rattle.office_rules.specs.Outcomes.{is_ending}
 use Rattle.office_rules.specs.Runs.{run_day}
 use Rattle.office_rules.specs.Sound.{IsSound}
@@ -26,7 +27,7 @@ use Rattle.office_rules.proofs.Repeating.{reported_again}
 use Rattle.office_rules.proofs.SoundMaps.{is_there, one_there}
 use Rattle.office_rules.proofs.SoundPlans.{class_there, numbered_there, plan_there}
 use Rattle.office_rules.proofs.SoundTaken.{taken}
-use Rattle.office_evidence.specs.History.{AreWellFormed, IsStepAt, before}
+use Rattle.office_evidence.specs.History.{IsStepAt, before}
 use Rattle.office_evidence.specs.Truth.{IsRecorded, IsTrueLine, IsWarranted, WasAdded}
 use Rattle.office_evidence.proofs.ActKinds.{kind_of}
 use Rattle.office_evidence.proofs.ActKinds.Kind.{adds, closes, opens, quiet, takes}

@@ -13,6 +13,7 @@ use Rattle.office_records.specs.declared.status.Status.TheVariants as status
 use Rattle.office_records.proofs.Places.{numbered_within}
 use Rattle.office_rules.specs.Acts.{after, answers}
 use Rattle.office_rules.specs.Certificates.{certificate_text}
+use Rattle.office_rules.specs.Forms.{AreWellFormed}
 use Rattle.office_rules.specs.Holds.{is_held}
 use Rattle.office_rules.specs.Outcomes.{is_ending}
 use Rattle.office_rules.specs.Runs.{certificate_of, entries_of, opened_by, run_day, spent_list}
@@ -29,7 +30,7 @@ use Rattle.office_rules.proofs.Listing.{listed_by_number, listed_entries}
 use Rattle.office_rules.proofs.SoundEmpty.{sound_empty}
 use Rattle.office_rules.proofs.SoundMaps.{is_there, one_there}
 use Rattle.office_rules.proofs.SoundTaken.{taken}
-use Rattle.office_evidence.specs.History.{AreWellFormed, IsStepAt, before}
+use Rattle.office_evidence.specs.History.{IsStepAt, before}
 use Rattle.office_evidence.specs.Parsed.{Certificate, IsTextOf}
 use Rattle.office_evidence.specs.Truth.{AreTheSteps, CameTo, IsBetween, IsTrueCertificate, IsTrueLine, IsWarranted, LeavesNoneOut, NoOtherWent, WasDue, WasReady}
 use Rattle.office_evidence.specs.declared.parsed.EntryLine.{EntryLine}

@@ -1,17 +1,11 @@
 -- What a list of acts did, place by place: the places of the acts and of their answers are counted from 0. Source: own.
 use Rattle.std.specs.Prelude.{◌≡◌, ℕ, ℤ, List, take, slice_get, Some}
-use Rattle.std.specs.List.{AllByRecursion}
 use Rattle.office_rules.specs.Acts.{after, answers}
-use Rattle.office_rules.specs.Forms.{IsWellFormedAct}
 use Rattle.office_rules.specs.State.{State}
 use Rattle.office_rules.specs.declared.act.Act.{Act}
 use Rattle.office_rules.specs.declared.act.Act.TheVariants.{OpenRun}
 use Rattle.office_rules.specs.declared.answer.Answer.TheVariants.{Number, RunClosed, Step}
 use Rattle.office_rules.specs.declared.outcome.Outcome.{Outcome}
-
--- each act of the list is of its form, as every act is that can be handed in
-abbrev pub AreWellFormed : List Act → Type 0
-AreWellFormed acts = AllByRecursion IsWellFormedAct acts
 
 -- the state just before the act at a place; after the last act at the place behind it
 abbrev pub before : State → List Act → ℕ → State

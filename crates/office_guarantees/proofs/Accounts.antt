@@ -8,7 +8,7 @@ use Rattle.office_base.specs.declared.refusal.Refusal.TheVariants as refused
 use Rattle.office_records.specs.Lists.{numbered}
 use Rattle.office_records.proofs.Places.{numbered_push}
 use Rattle.office_rules.specs.Acts.{after as after_acts, step}
-use Rattle.office_rules.specs.Forms.{IsWellFormedAct}
+use Rattle.office_rules.specs.Forms.{AreWellFormed, IsWellFormedAct}
 use Rattle.office_rules.specs.Sound.{IsSound}
 use Rattle.office_rules.specs.State.{Office, State, empty_state}
 use Rattle.office_rules.specs.declared.act.Act.{Act}
@@ -17,7 +17,6 @@ use Rattle.office_store.specs.Adopted.{AreCertificatesTexts}
 use Rattle.office_store.specs.declared.fault.Fault.TheVariants as fault
 use Rattle.office_life.specs.Standing.{Stage, StandsAt, unmade}
 use Rattle.office_command_line.specs.Orders as command
-use Rattle.office_evidence.specs.History.{AreWellFormed}
 use Rattle.office_evidence.specs.Truth.{IsTrueCertificate, IsTrueEntry}
 use Rattle.office_commands.specs.FileHistory.{ActsOfRuns, FileHistory, FilesFollow, IsLeftAt, ProgramRun, ReportsContents, StateHistory, no_run, one_run, ran_command}
 use Rattle.office_commands.specs.declared.exit.Exit.TheVariants as how

@@ -6,6 +6,7 @@ use Rattle.sqlite_wal.specs.Recovery.{Image}
 use Rattle.sqlite.specs.Files.{IsNothing}
 use Rattle.office_records.specs.Lists.{numbered}
 use Rattle.office_rules.specs.Acts.{after as after_acts}
+use Rattle.office_rules.specs.Forms.{AreWellFormed}
 use Rattle.office_rules.specs.Sound.{IsSound}
 use Rattle.office_rules.specs.State.{State, empty_state}
 use Rattle.office_rules.specs.declared.act.Act.{Act}
@@ -13,7 +14,6 @@ use Rattle.office_rules.specs.declared.entry.Entry.{Entry}
 use Rattle.office_store.specs.Adopted.{AreCertificatesTexts}
 use Rattle.office_life.specs.Standing.{Stage, StandsAt, unmade}
 use Rattle.office_command_line.specs.Orders as command
-use Rattle.office_evidence.specs.History.{AreWellFormed}
 use Rattle.office_evidence.specs.Truth.{IsTrueCertificate, IsTrueEntry}
 use Rattle.office_commands.specs.FileHistory.{ActsOfRuns, FileHistory, ProgramRun, ran_command}
 use Rattle.office_commands.specs.declared.exit.Exit.TheVariants as how

@@ -7,7 +7,7 @@ use Rattle.sqlite.specs.Files.{IsEmpty}
 use Rattle.sqlite.specs.Held.{Held, state}
 use Rattle.sqlite.specs.State.{State as FileState, HasCleanDisk}
 use Rattle.office_rules.specs.Acts.{after, answers, step}
-use Rattle.office_rules.specs.Forms.{IsWellFormedAct}
+use Rattle.office_rules.specs.Forms.{AreWellFormed, IsWellFormedAct}
 use Rattle.office_rules.specs.Rows.{rows_of}
 use Rattle.office_rules.specs.Runs.{after_steps, candidates, open_run, whole, with_outcomes}
 use Rattle.office_rules.specs.Sound.{IsSound}
@@ -23,7 +23,6 @@ use Rattle.office_store.specs.declared.fault.Fault.{Fault}
 use Rattle.office_store.specs.declared.fault.Fault.TheVariants as fault
 use Rattle.office_desk.proofs.StepFates.{after_run, are_steps, run_steps}
 use Rattle.office_desk.specs.Desk.{DeskState}
-use Rattle.office_desk.specs.Headline.{AreWellFormed}
 use Rattle.office_desk.specs.Leaving.{IsAt, LeavesOne, LeavesStep, StopsLeaving}
 use Rattle.office_desk.specs.Opening.{Finds, LeavesTables, OpenFailedLeaves}
 use Rattle.office_desk.specs.Outcomes.{ActsCameTo, FromEach, acts_outcome}

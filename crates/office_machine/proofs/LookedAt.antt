@@ -14,7 +14,8 @@ use Rattle.office_rules.specs.Runs.{looked_at_by, looked_at_in}
 use Rattle.office_rules.specs.State.{Office}
 use Rattle.office_rules.specs.declared.run.Run.{Run}
 use Rattle.office_rules.proofs.Rising.{AllAfter, AllAfter-filter, AllAfter-numbers}
-use Rattle.office_machine.proofs.NextReady.{one_after, ready_after, ready_here, ready_later}
+use Rattle.office_records.proofs.Numbers.{one_after}
+use Rattle.office_machine.proofs.NextReady.{ready_after, ready_here, ready_later}
 
 -- ---- a ready record is a candidate
 

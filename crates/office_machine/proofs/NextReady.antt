@@ -1,6 +1,7 @@
 -- The least ready record above a run's cursor, looked for number by number.
-use Rattle.std.proofs.Common.{◌≡◌, ◌<◌, ◌+◌, ◌-◌, ℕ, suc, Bool, true, false, cond, ◌∷◌, length, find, Option, Some, ℤ, pos, unwrap_or, option_map, ap, ◌∙◌, arith}
+use Rattle.std.proofs.Common.{◌≡◌, ◌<◌, ◌+◌, ◌-◌, ℕ, Bool, true, false, cond, length, find, Option, Some, ℤ, pos, unwrap_or, option_map, ap, ◌∙◌}
 use Rattle.office_records.specs.Lists.{numbered, numbers_after}
+use Rattle.office_records.proofs.Numbers.{one_after}
 use Rattle.office_rules.specs.Disposing.{is_ready}
 use Rattle.office_rules.specs.Runs.{next_ready}
 use Rattle.office_rules.specs.State.{Office}
@@ -14,12 +15,6 @@ ready_after s day before = find (is_ready s day) (numbers_after before (length s
 pub next_by_row : (s : Office) (run : ℕ) (it : Run) → numbered s.runs run ≡ Some it → next_ready s run ≡ ready_after s it.day it.cursor
 next_by_row s run it there =
     ap (λ o. ready_after s (unwrap_or (option_map (λ (row : Run). row.day) o) (pos 0)) (unwrap_or (option_map (λ (row : Run). row.cursor) o) 0)) there
-
-pub one_after : (count before : ℕ) → before < count → numbers_after before (count - before) ≡ (before + 1) ∷ numbers_after (before + 1) (count - (before + 1))
-one_after count before h =
-    let left : count - before ≡ suc (count - (before + 1)) = omega arith in
-    let more : suc before ≡ before + 1 = omega arith in
-    ap (numbers_after before) left ∙ ap (λ n. n ∷ numbers_after n (count - (before + 1))) more
 
 -- the next number is tried first
 try_next : (s : Office) (day : ℤ) (before : ℕ) (ready : Bool) → before < length s.tree.records → is_ready s day (before + 1) ≡ ready

@@ -1,13 +1,13 @@
 //! The office as the layers above see it, sound at any time: it decides, applies and reports.
 ghost use Rattle.std.specs.Prelude.{◌≡◌, IfOk, None, Ok, OnErr, OnOk, false};
 ghost use Rattle.std.specs.FinMap.{get};
-ghost use Rattle.std.specs.Option.{option_map};
+ghost use Rattle.std.specs.Option.{option_copied, option_map};
 ghost use Rattle.std.specs.String.{string_bytes};
 ghost use Rattle.office_rules.specs.Acts.{CanBeMade, IsDecidedFor, IsFeasible, KeepsHeld, ReportsItsKind, may_release};
 ghost use Rattle.office_rules.specs.Forms.{IsWellFormedAct};
 ghost use Rattle.office_rules.specs.Readings.{IsDueList, IsOverdueList, all_entries_of, ending_entry, record_view};
 ghost use Rattle.office_rules.specs.Registers.{AreDueRows, AreOverdueRows, entry_rows};
-ghost use Rattle.office_rules.specs.Runs.{looked_at, next_in_run};
+ghost use Rattle.office_rules.specs.Runs.{looked_at, next_in_run, open_run, opened_by};
 ghost use Rattle.office_rules.specs.State.{empty_office};
 ghost use Rattle.office_rules.specs.Writes.{all_office_writes};
 
@@ -20,7 +20,7 @@ use crate::{Act, Change, Decision, RecordView};
 use office_base::Memory;
 use office_days::{ConfirmDays, Day};
 use office_holds::Holds;
-use office_records::RecordNo;
+use office_records::{RecordNo, Text};
 use office_rules::{Entry, RunNo};
 use office_tree::Tree;
 use std::alloc::Global;
@@ -181,6 +181,13 @@ impl Machine {
         ensures { result ≡ entry_rows self.now }
     {
         self.parts.entry_rows()
+    }
+
+    /// Who opened the run that is open; `None` if none is open.
+    pub fn opener(&self) -> Option<&Text>
+        ensures { option_copied result ≡ option_map (opened_by self.now) (open_run self.now) }
+    {
+        self.parts.opener()
     }
 
     /// The tree, by which its readings and checks are reached.

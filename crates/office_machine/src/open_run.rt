@@ -1,16 +1,17 @@
 //! The open run, and the next ready record for it.
 ghost use Rattle.std.specs.Prelude.{◌≡◌, length, IsSome, IsTrue, Some};
+ghost use Rattle.std.specs.Option.{option_copied, option_map};
 ghost use Rattle.office_records.specs.Lists.{numbered};
 ghost use Rattle.office_records.specs.Candidates.{is_candidate};
 ghost use Rattle.office_records.specs.Tree.{has_record};
 ghost use Rattle.office_rules.specs.Disposing.{is_ready};
-ghost use Rattle.office_rules.specs.Runs.{looked_at, looked_at_in, next_in_run, next_ready, open_run};
+ghost use Rattle.office_rules.specs.Runs.{looked_at, looked_at_in, next_in_run, next_ready, open_run, opened_by};
 ghost use Rattle.office_rules.specs.Sound.{IsSoundOffice};
 
 use crate::Run;
 use crate::parts::Parts;
 use office_days::Day;
-use office_records::{RecordNo, Status};
+use office_records::{RecordNo, Status, Text};
 use office_rules::RunNo;
 
 impl Parts {
@@ -39,6 +40,17 @@ impl Parts {
         match self.runs.last() {
             Some(run) if !run.is_closed => Some(last),
             _ => None,
+        }
+    }
+
+    /// Who opened the run that is open; `None` if none is open.
+    pub(crate) fn opener(&self) -> Option<&Text>
+        requires { IsSoundOffice self.now }
+        ensures { option_copied result ≡ option_map (opened_by self.now) (open_run self.now) }
+    {
+        match self.open_run() {
+            Some(run) => Some(&self.run(run).by),
+            None => None,
         }
     }
 

@@ -12,6 +12,7 @@ pub mod LastingRows
 pub mod Least
 pub mod Maps
 pub mod Named
+pub mod Numbers
 pub mod Passing
 pub mod Placed
 pub mod Places

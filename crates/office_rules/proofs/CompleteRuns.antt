@@ -6,13 +6,12 @@ use Rattle.std.specs.FinMap.{get}
 use Rattle.office_records.specs.Tree.{action_of, status_of}
 use Rattle.office_records.specs.declared.action.Action.TheVariants as action
 use Rattle.office_records.specs.declared.status.Status.TheVariants as status
-use Rattle.office_rules.specs.Disposing.{entry_of, outcome_by, outcome_of}
+use Rattle.office_rules.specs.Disposing.{entry_of, outcome_of}
 use Rattle.office_rules.specs.Holds.{is_held}
 use Rattle.office_rules.specs.Meanings.{IsCandidate}
 use Rattle.office_rules.specs.Outcomes.{is_ending}
 use Rattle.office_rules.specs.Runs.{all_contents, all_entries, candidates, closed, contents_with, entries_with, whole, with_outcomes}
 use Rattle.office_rules.specs.State.{ByteMap, EntryMap, Office, State}
-use Rattle.office_rules.specs.declared.entry.Entry.{Entry}
 use Rattle.office_rules.specs.declared.outcome.Outcome.{Outcome}
 use Rattle.office_rules.specs.declared.outcome.Outcome.TheVariants as outcome
 use Rattle.office_rules.proofs.Candidates.{candidates_are}

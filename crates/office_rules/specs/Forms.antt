@@ -1,5 +1,6 @@
 -- When what an act asks for is of its form and within its limits; the types of the code see to it. Source: own.
-use Rattle.std.specs.Prelude.{◌≤◌, IfSome}
+use Rattle.std.specs.Prelude.{◌≤◌, IfSome, List}
+use Rattle.std.specs.List.{AllByRecursion}
 use Rattle.office_days.specs.Limits.{IsDayNumber, longest}
 use Rattle.office_records.specs.Forms.{IsCode, IsText}
 use Rattle.office_rules.specs.HoldForms.{IsWellFormedTarget}
@@ -31,3 +32,7 @@ IsWellFormedAct (act.HoldOff day code target) = IsDayNumber day × IsCode code �
 IsWellFormedAct (act.LiftHold day code) = IsDayNumber day × IsCode code
 IsWellFormedAct (act.OpenRun day by) = IsDayNumber day × IsText by
 IsWellFormedAct act.RunStep = Unit {0}
+
+-- each act of the list is of its form, as every act is that can be handed in
+abbrev pub AreWellFormed : List Act → Type 0
+AreWellFormed acts = AllByRecursion IsWellFormedAct acts

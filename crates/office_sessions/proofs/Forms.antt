@@ -3,7 +3,7 @@ use Rattle.std.proofs.Common.{◌≡◌, ℕ, zero, suc, List, [], ◌∷◌, �
 use Rattle.sqlite_trees.specs.Tree.{Trees}
 use Rattle.sqlite.specs.State.{State as FileState}
 use Rattle.office_rules.specs.Acts.{after, step}
-use Rattle.office_rules.specs.Forms.{IsWellFormedAct}
+use Rattle.office_rules.specs.Forms.{AreWellFormed, IsWellFormedAct}
 use Rattle.office_rules.specs.Rows.{rows_of}
 use Rattle.office_rules.specs.Sound.{IsSound}
 use Rattle.office_rules.specs.State.{State}
@@ -11,7 +11,6 @@ use Rattle.office_rules.specs.declared.act.Act.{Act}
 use Rattle.office_sql.specs.Office.{IsOfficeIn}
 use Rattle.office_sql.specs.declared.schema_versions.SchemaVersion.TheVariants as schema_version
 use Rattle.office_store.specs.RepresentsRows.{ContainsRows, RepresentsRows}
-use Rattle.office_desk.specs.Headline.{AreWellFormed}
 use Rattle.office_desk.specs.Resuming.{AreRunSteps}
 use Rattle.office_life.specs.Tables.{AreTablesAt}
 use Rattle.office_life.proofs.DeskWork.{StaySound}

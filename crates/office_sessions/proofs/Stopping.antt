@@ -6,10 +6,10 @@ use Rattle.std.proofs.Math.Seq.{drop-cons, take-length}
 use Rattle.sqlite.specs.Held.{state}
 use Rattle.sqlite_trees.specs.declared.store.Store.{Ghosts}
 use Rattle.office_rules.specs.Acts.{after}
+use Rattle.office_rules.specs.Forms.{AreWellFormed}
 use Rattle.office_rules.specs.State.{State}
 use Rattle.office_rules.specs.declared.act.Act.{Act}
 use Rattle.office_desk.specs.Desk.{DeskState}
-use Rattle.office_desk.specs.Headline.{AreWellFormed}
 use Rattle.office_desk.specs.Leaving.{IsAt}
 use Rattle.office_desk.proofs.Found.{after-append}
 use Rattle.office_wire.specs.Sources.{Sent}

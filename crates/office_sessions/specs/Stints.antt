@@ -9,9 +9,9 @@ use Rattle.sqlite.specs.Files.{image_of}
 use Rattle.sqlite.specs.declared.error.Error.{Error}
 use Rattle.sqlite.specs.declared.file.Leftover.{Leftover}
 use Rattle.office_rules.specs.Acts.{after}
+use Rattle.office_rules.specs.Forms.{AreWellFormed}
 use Rattle.office_rules.specs.State.{State}
 use Rattle.office_rules.specs.declared.act.Act.{Act}
-use Rattle.office_desk.specs.Headline.{AreWellFormed}
 use Rattle.office_life.specs.Life.{LeadsBy}
 use Rattle.office_life.specs.Opening.{AreUnopened, StopsOffice}
 use Rattle.office_life.specs.Standing.{Stage, StandsAt, remains_of}

@@ -1,10 +1,10 @@
 //! That the certificates of an office are texts.
 ghost use Rattle.std.specs.Prelude.{List, ℕ, IsUtf8};
 ghost use Rattle.office_rules.specs.Acts.{after};
+ghost use Rattle.office_rules.specs.Forms.{AreWellFormed};
 ghost use Rattle.office_rules.specs.Sound.{IsSound};
 ghost use Rattle.office_rules.specs.State.{State, empty_state};
 ghost use Rattle.office_rules.specs.declared.act.Act.{Act};
-ghost use Rattle.office_evidence.specs.History.{AreWellFormed};
 ghost use Rattle.office_evidence.specs.Parsed.{Certificate, IsTextOf};
 ghost use Rattle.office_evidence.specs.Texts.{AreCertificatesUtf8};
 

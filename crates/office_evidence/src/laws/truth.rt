@@ -2,11 +2,11 @@
 ghost use Rattle.std.specs.Prelude.{◌≡◌, ◌<◌, ℕ, List, length, Some};
 ghost use Rattle.std.specs.FinMap.{get};
 ghost use Rattle.office_rules.specs.Acts.{after};
+ghost use Rattle.office_rules.specs.Forms.{AreWellFormed};
 ghost use Rattle.office_rules.specs.Sound.{IsSound};
 ghost use Rattle.office_rules.specs.State.{Office, State, empty_state};
 ghost use Rattle.office_rules.specs.declared.act.Act.{Act};
 ghost use Rattle.office_rules.specs.declared.entry.Entry.{Entry};
-ghost use Rattle.office_evidence.specs.History.{AreWellFormed};
 ghost use Rattle.office_evidence.specs.Truth.{IsTrueCertificate, IsTrueEntry};
 
 /// An entry, once it is written, and the certificate of a run stay as they are over any further

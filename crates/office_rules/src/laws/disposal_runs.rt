@@ -10,7 +10,7 @@ ghost use Rattle.office_records.specs.Tree.{TreeState, action_of, has_aggregatio
 ghost use Rattle.office_records.specs.declared.action.Action.TheVariants as action;
 ghost use Rattle.office_records.specs.declared.status.Status.TheVariants as status;
 ghost use Rattle.office_rules.specs.Disposing.{entry_of, outcome_of};
-ghost use Rattle.office_rules.specs.declared.outcome.Outcome.{Outcome as AnyOutcome};
+ghost use Rattle.office_rules.specs.declared.outcome.Outcome.{Outcome};
 ghost use Rattle.office_rules.specs.declared.outcome.Outcome.TheVariants as outcome;
 ghost use Rattle.office_rules.specs.Holds.{is_held, least_covering};
 ghost use Rattle.office_rules.specs.Certificates.{certificate_text};
@@ -96,17 +96,19 @@ pub fn law_of_the_certificate()
         → get (closed s run).office.certificates other ≡ get s.office.certificates other }
 {}
 
-/// What a run does that nothing interrupts, or that is resumed until it closes. Each of its
-/// candidates, that is each record above its cursor that was ready, has its entry, by the state
-/// before; the content of what is ended is gone. So a record that is here, due by the run's day and
-/// confirmed for destruction, and that no hold in force covers, is destroyed.
+/// A run without other acts between its steps leaves no record out, whether it is stopped and
+/// resumed or not. Each record above its cursor that was ready (`IsCandidate`) has the entry that
+/// the office before determines (`entered`), and no content if that entry ends it (`gone`). So a
+/// record that was here, due, confirmed for destruction and not held is destroyed.
 pub fn law_of_complete_runs()
-    ensures entered { (s : State) (run r : ℕ) (o : AnyOutcome) → IsCandidate s.office run r
+    ensures entered { (s : State) (run r : ℕ) (o : Outcome) → IsCandidate s.office run r
         → outcome_of s.office r ≡ Some o
         → get (whole s run).office.entries (run, r) ≡ Some (entry_of s.office run r o) }
-    ensures gone { (s : State) (run r : ℕ) (o : AnyOutcome) → IsCandidate s.office run r
+    ensures gone { (s : State) (run r : ℕ) (o : Outcome) → IsCandidate s.office run r
         → outcome_of s.office r ≡ Some o → IsTrue (is_ending o)
         → get (whole s run).contents r ≡ None }
+
+    // Since the record is ready and here, it is due by the run's day, and its confirmation counts.
     ensures destroyed { (s : State) (run r : ℕ) → IsCandidate s.office run r
         → status_of s.office.tree r ≡ Some status.Here
         → action_of s.office.tree r ≡ Some action.Destroy

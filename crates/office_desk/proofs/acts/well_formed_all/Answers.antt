@@ -1,6 +1,6 @@
 use Rattle.std.proofs.Common.{subst}
 use Rattle.std.proofs.lemmas.List.{take_all}
-use Rattle.office_desk.specs.Headline.{AreWellFormed}
+use Rattle.office_rules.specs.Forms.{AreWellFormed}
 use Rattle.office_desk.proofs.Prefixes.{well_formed_next}
 use Rattle.office_desk.proofs.acts.well_formed_all.Goals as goal
 

@@ -1,7 +1,7 @@
 use Rattle.std.proofs.Common.{◌≡◌, inl, inr, map, refl, sym, subst}
 use Rattle.sqlite_store.specs.FileStore.{recovers}
 use Rattle.sqlite_wal.specs.Files.{outcomes}
-use Rattle.office_desk.specs.Headline.{AreWellFormed}
+use Rattle.office_rules.specs.Forms.{AreWellFormed}
 use Rattle.office_life.specs.Life.{Leads, LeadsBy}
 use Rattle.office_life.specs.Standing.{FilesLead, IsKnownAt, outcomes_left, remains_of, stage_after}
 use Rattle.office_life.specs.declared.reports.Remains.{Remains}
