@@ -1,8 +1,9 @@
 //! The office as the layers above see it, sound at any time: it decides, applies and reports.
-ghost use Rattle.std.specs.Prelude.{◌≡◌, IfOk, None, Ok, OnErr, OnOk, false};
+ghost use Rattle.std.specs.Prelude.{◌≡◌, IfOk, None, Ok, OnErr, OnOk, false, length};
 ghost use Rattle.std.specs.FinMap.{get};
 ghost use Rattle.std.specs.Option.{option_copied, option_map};
 ghost use Rattle.std.specs.String.{string_bytes};
+ghost use Rattle.office_records.specs.Lists.{numbered};
 ghost use Rattle.office_rules.specs.Acts.{CanBeMade, IsDecidedFor, IsFeasible, KeepsHeld, ReportsItsKind, may_release};
 ghost use Rattle.office_rules.specs.Forms.{IsWellFormedAct};
 ghost use Rattle.office_rules.specs.Readings.{IsDueList, IsOverdueList, all_entries_of, ending_entry, record_view};
@@ -181,6 +182,27 @@ impl Machine {
         ensures { result ≡ entry_rows self.now }
     {
         self.parts.entry_rows()
+    }
+
+    /// The number of runs, which is that of the last one.
+    pub fn run_count(&self) -> RunNo
+        ensures { result ≡ length self.now.runs }
+    {
+        self.parts.run_count()
+    }
+
+    /// Who opened the run of that number; `None` if there is no such run.
+    pub fn run_opener(&self, run: RunNo) -> Option<&Text>
+        ensures { option_copied result ≡ option_map (λ it. it.by) (numbered self.now.runs run) }
+    {
+        self.parts.run_opener(run)
+    }
+
+    /// The entry of that run about the record; `None` if there is none.
+    pub fn entry(&self, run: RunNo, record_no: RecordNo) -> Option<&Entry>
+        ensures { option_copied result ≡ get self.now.entries (run, record_no) }
+    {
+        self.parts.entry(run, record_no)
     }
 
     /// Who opened the run that is open; `None` if none is open.

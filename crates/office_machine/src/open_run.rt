@@ -31,6 +31,17 @@ impl Parts {
         &self.runs[number as usize - 1]
     }
 
+    /// Who opened the run of that number; `None` if there is no such run.
+    pub(crate) fn run_opener(&self, number: RunNo) -> Option<&Text>
+        requires { IsSoundOffice self.now }
+        ensures { option_copied result ≡ option_map (λ it. it.by) (numbered self.now.runs number) }
+    {
+        if number == 0 || number > self.run_count() {
+            return None;
+        }
+        Some(&self.run(number).by)
+    }
+
     /// The run that is open: the last one, unless it is closed.
     pub(crate) fn open_run(&self) -> Option<RunNo>
         requires { IsSoundOffice self.now }

@@ -90,6 +90,13 @@ impl Parts {
         }
     }
 
+    /// The entry of that run about the record; `None` if there is none.
+    pub(crate) fn entry(&self, run: RunNo, record_no: RecordNo) -> Option<&Entry>
+        ensures { option_copied result ≡ get self.now.entries (run, record_no) }
+    {
+        self.entries.get(&(run, record_no))
+    }
+
     /// All entries, by run, then record.
     pub(crate) fn all_entries(&self, alloc: Global) -> Result<Vec<Entry>, Memory>
         ensures { IfOk result (λ all. all.items ≡ all_entries_of self.now) }

@@ -11,7 +11,7 @@ ghost use Rattle.office_records.specs.Tree.{event_day, has_aggregation, has_reco
 use crate::Tree;
 use crate::ref_index::number_of;
 use office_days::Day;
-use office_records::{AggNo, Aggregation, Class, Code, Record, RecordNo, Schedule, Status, Text};
+use office_records::{AggNo, Aggregation, Class, Code, Event, Record, RecordNo, Schedule, Status, Text};
 
 /// The row of that number, if it is there. Rows are numbered 1, 2, ..
 pub(crate) fn numbered<T>(rows: &[T], number: u32) -> Option<&T>
@@ -73,6 +73,13 @@ impl Tree {
         ensures { numbered self.now.statuses record_no ≡ Some result }
     {
         self.statuses[record_no as usize - 1]
+    }
+
+    /// The event of the record; `None` if none is recorded.
+    pub fn event(&self, record_no: RecordNo) -> Option<&Event>
+        ensures { option_copied result ≡ get self.now.events record_no }
+    {
+        self.events.get(&record_no)
     }
 
     /// The day on which the record's event occurred; none where no event of it is recorded.
