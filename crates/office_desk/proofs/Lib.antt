@@ -2,6 +2,7 @@ pub mod AllFates
 pub mod MigratedDesks
 pub mod DecidedSteps
 pub mod Found
+pub mod Permitted
 pub mod Prefixes
 pub mod LeftFates
 pub mod LeftOffices

@@ -1,5 +1,5 @@
 -- What a desk did with acts, by their outcome.
-use Rattle.std.proofs.Common.{◌≡◌, ◌∙◌, ◌+◌, ◌≤◌, ℕ, suc, List, [], ◌∷◌, ◌++◌, drop, length, take, Result, Ok, Err, refl, sym, ap, subst, inl, arith}
+use Rattle.std.proofs.Common.{◌≡◌, ◌∙◌, ◌+◌, ◌≤◌, ℕ, suc, Bool, List, [], ◌∷◌, ◌++◌, drop, length, take, Result, Ok, Err, refl, sym, ap, subst, inl, arith}
 use Rattle.std.proofs.Math.Seq.{drop-append_seam}
 use Rattle.std.proofs.lemmas.List.{length-take-le}
 use Rattle.sqlite.specs.State as sqlite
@@ -13,6 +13,7 @@ use Rattle.office_rules.specs.declared.answer.Answer.{Answer}
 use Rattle.office_store.specs.declared.fault.Fault.{Fault}
 use Rattle.office_store.proofs.Saved.{offices_at_rest}
 use Rattle.office_desk.specs.Desk.{DeskState}
+use Rattle.office_desk.specs.Guarded.{guarded_outcome}
 use Rattle.office_desk.specs.Leaving.{LeavesOne, StopsAt, StopsLeaving}
 use Rattle.office_desk.specs.Outcomes.{ActsCameTo, ActsLeave, ActsOutcome, AreAnswered, CanComeTo, IsActAnswered, act_outcome, acts_outcome, all_done, answered_acts, answers_of, stopped}
 use Rattle.office_desk.proofs.LeftFates.{AreFatesReported, fates_at, fates_done, one_left}
@@ -81,6 +82,12 @@ module _ (reported : AreFatesReported) (on : GoesOn) (s : State) (sound : IsSoun
       → ActsCameTo s acts (acts_outcome r given found) file
   came_to acts given found (Ok x) new it left = acts_came acts (acts_outcome (Ok x) given found) it.formed it.fits (follows given found _ it.added) left
   came_to acts given found (Err f) new it left = acts_came acts (acts_outcome (Err f) given found) it.formed it.fits (follows given found _ it.added) left
+
+  -- also where a guard let them through
+  pub guarded_came : {S : Type 0} (acts : List Act) (given found : List Answer) (r : Result Bool Fault) (new : DeskState S) → AreAnswered s acts (guarded_outcome r given found) given found new → ActsLeave s acts (guarded_outcome r given found) file
+      → ActsCameTo s acts (guarded_outcome r given found) file
+  guarded_came acts given found (Ok all) new it left = came_to acts given found (Ok tt) new it left
+  guarded_came acts given found (Err f) new it left = came_to acts given found (Err f) new it left
 
   pub one_came : {S : Type 0} (a : Act) (r : Result Answer Fault) (old new : DeskState S) → IsActAnswered s a r old new → ActsLeave s (a ∷ []) (act_outcome r) file → ActsCameTo s (a ∷ []) (act_outcome r) file
   one_came a (Ok answer) old new it left = acts_came (a ∷ []) (all_done (answer ∷ [])) (it.formed, tt) tt (ap (λ (told : Answer). told ∷ []) it.answered) left

@@ -85,27 +85,40 @@ none_called g d given found is_open silent = record {
   rest = spares_here g d;
 }
 
--- how acts end
-pub record Ends {S : Type 0} (g : Ghosts S) (old new : DeskState S) (acts : List Act) (given found : List Answer) (r : Result (Unit {0}) Fault) : Type 0 where
-  pub answered : (s : State) → s.office ≡ old.office → AreAnswered s acts (acts_outcome r given found) given found new
-  pub leaves : FromEach g old new (λ s. ActsLeave s acts (acts_outcome r given found) (state g new.connection))
+-- how acts end, which may depend on the state at which the desk was
+pub record Ends {S : Type 0} (g : Ghosts S) (old new : DeskState S) (all : State → List Act) (given found : List Answer) (r : Result (Unit {0}) Fault) : Type 0 where
+  pub answered : (s : State) → s.office ≡ old.office → AreAnswered s (all s) (acts_outcome r given found) given found new
+  pub leaves : FromEach g old new (λ s. ActsLeave s (all s) (acts_outcome r given found) (state g new.connection))
   pub rest : SparesTheRest g old new
 
+-- a list begins with the first i acts of another and one more
+pub record Begins (acts : List Act) (i : ℕ) (xs : List Act) : Type 0 where
+  pub formed : AreWellFormed xs
+  pub within : i < length xs
+  pub first : take i xs ≡ take i acts
+  pub next : take (i + 1) xs ≡ take (i + 1) acts
+
 -- all were done
-pub all_ended : {S : Type 0} (g : Ghosts S) (old new : DeskState S) (acts : List Act) (given found : List Answer) → AreWellFormed acts → CalledPrefix g old new acts given found → Ends g old new acts given found (Ok tt)
-all_ended g old new acts given found formed so_far = record {
-  answered = λ s same. record { formed = formed; fits = tt; added = so_far.added s same; leads = (so_far.office s same, so_far.still) };
-  leaves = so_far.leaves;
+pub all_ended : {S : Type 0} (g : Ghosts S) (old new : DeskState S) (acts : List Act) (given found : List Answer) → CalledPrefix g old new acts given found
+    → (all : State → List Act) → ((s : State) → AreWellFormed (all s)) → ((s : State) → s.office ≡ old.office → all s ≡ acts) → Ends g old new all given found (Ok tt)
+all_ended g old new acts given found so_far all formed are = record {
+  answered = λ s same. record {
+    formed = formed s;
+    fits = tt;
+    added = subst (λ (xs : List Act). found ≡ given ++ answers s xs) (sym (are s same)) (so_far.added s same);
+    leads = (so_far.office s same ∙ ap (λ (xs : List Act). (after s xs).office) (sym (are s same)), so_far.still);
+  };
+  leaves = λ s clean at. subst (λ (xs : List Act). ContainsState (after s xs) (state g new.connection)) (sym (are s (sym at.office))) (so_far.leaves s clean at);
   rest = so_far.rest;
 }
 
 -- no act was begun, for lack of memory
-pub none_begun : {S : Type 0} (g : Ghosts S) (d : DeskState S) (acts : List Act) (given found : List Answer) → AreWellFormed acts → d.is_poisoned ≡ false → found ≡ given → Ends g d d acts given found (Err fault.Memory)
-none_begun g d acts given found formed is_open silent =
+pub none_begun : {S : Type 0} (g : Ghosts S) (d : DeskState S) (all : State → List Act) (given found : List Answer) → ((s : State) → AreWellFormed (all s)) → d.is_poisoned ≡ false → found ≡ given → Ends g d d all given found (Err fault.Memory)
+none_begun g d all given found formed is_open silent =
     let none : found ≡ given ++ [] = ◌∙◌ {A = List Answer} silent (sym (append-nil given)) in
     record {
-      answered = λ s same. stopped_answered s acts given found fault.Memory 0 (omega arith) none d formed (none_left acts) (sym same, is_open);
-      leaves = λ s clean at. stopped_leaves s acts given found fault.Memory 0 (omega arith) none (state g d.connection) at.rows;
+      answered = λ s same. stopped_answered s (all s) given found fault.Memory 0 (omega arith) none d (formed s) (none_left (all s)) (sym same, is_open);
+      leaves = λ s clean at. stopped_leaves s (all s) given found fault.Memory 0 (omega arith) none (state g d.connection) at.rows;
       rest = spares_here g d;
     }
 
@@ -134,38 +147,53 @@ module _ (acts : List Act) (i : ℕ) (a : Act) (within : i < length acts) (is : 
         rest = rest_next new rest;
       }
 
-  module _ (formed : AreWellFormed acts) where
-    -- it is stopped by a fault
+  module _ (all : State → List Act) (begins : (s : State) → s.office ≡ old.office → Begins acts i (all s)) where
+    -- what was answered so far are the first acts of the list
+    added_first : (found : List Answer) → found ≡ before → (s : State) → s.office ≡ old.office → found ≡ given ++ answers s (take i (all s))
+    added_first found silent s same =
+        subst (λ (xs : List Act). found ≡ given ++ answers s xs) (sym (begins s same).first) (◌∙◌ {A = List Answer} silent (so_far.added s same))
+
+    -- in memory the desk is stopped behind them
+    answered_first : (new : DeskState S) (found : List Answer) (f : Fault) → found ≡ before → ((s : State) → s.office ≡ old.office → StopsAt (after s (take i acts)).office f new)
+        → (s : State) → s.office ≡ old.office → AreAnswered s (all s) (acts_outcome (Err f) given found) given found new
+    answered_first new found f silent stops s same =
+        let low : i ≤ length (all s) = omega (arith, (begins s same).within) in
+        stopped_answered s (all s) given found f i low (added_first found silent s same) new (begins s same).formed (inl (begins s same).within)
+        (subst (λ (xs : List Act). StopsAt (after s xs).office f new) (sym (begins s same).first) (stops s same))
+
+    -- and a crash leaves the tables after them or after one more
+    leaves_first : (new : DeskState S) (found : List Answer) (f : Fault) → found ≡ before
+        → FromEach g old new (λ s. StopsLeaving (after s (take i acts)) (step (after s (take i acts)) a).1 f (state g new.connection))
+        → FromEach g old new (λ s. ActsLeave s (all s) (acts_outcome (Err f) given found) (state g new.connection))
+    leaves_first new found f silent left s clean at =
+        let same = sym at.office in
+        let low : i ≤ length (all s) = omega (arith, (begins s same).within) in
+        let next : (step (after s (take i acts)) a).1 ≡ after s (take (i + 1) (all s)) = sym (after_next acts i a within is s) ∙ ap (after s) (sym (begins s same).next) in
+        stopped_leaves s (all s) given found f i low (added_first found silent s same) (state g new.connection)
+        (subst (λ (t : State). StopsLeaving t (after s (take (i + 1) (all s))) f (state g new.connection)) (ap (after s) (sym (begins s same).first))
+        (subst (λ (t : State). StopsLeaving (after s (take i acts)) t f (state g new.connection)) next (left s clean at)))
+
+    -- the next act is stopped by a fault
     pub stopped_next : (new : DeskState S) (f : Fault) → ((s : State) → s.office ≡ mid.office → IsActAnswered s a (Err f) mid new) → FromEach g mid new (λ s. StopsLeaving s (step s a).1 f (state g new.connection)) → SparesTheRest g mid new
-        → Ends g old new acts given before (Err f)
-    stopped_next new f answered leaves rest =
-        let low : i ≤ length acts = omega (arith, within) in
-        record {
-          answered = λ s same.
-              stopped_answered s acts given before f i low (so_far.added s same) new formed (inl within) (answered (after s (take i acts)) (sym (so_far.office s same))).leads;
-          leaves = λ s clean at.
-              stopped_leaves s acts given before f i low (so_far.added s (sym at.office)) (state g new.connection)
-              (subst (λ (t : State). StopsLeaving (after s (take i acts)) t f (state g new.connection)) (sym (after_next acts i a within is s)) (leaves (after s (take i acts)) clean (at_mid s (rest.clean clean) at)));
-          rest = rest_next new rest;
-        }
+        → Ends g old new all given before (Err f)
+    stopped_next new f answered leaves rest = record {
+      answered = answered_first new before f refl (λ s same. (answered (after s (take i acts)) (sym (so_far.office s same))).leads);
+      leaves = leaves_first new before f refl (λ s clean at. leaves (after s (take i acts)) clean (at_mid s (rest.clean clean) at));
+      rest = rest_next new rest;
+    }
 
     -- it is done, and finds no room for its answer
     pub unreported_next : (done new : DeskState S) (answer : Answer) (found : List Answer) (f : Fault) → ((s : State) → s.office ≡ mid.office → IsActAnswered s a (Ok answer) mid done)
         → FromEach g mid done (λ s. ContainsState (step s a).1 (state g done.connection)) → SparesTheRest g mid done → new.connection ≡ done.connection → found ≡ before → IsPoisoned f new
-        → Ends g old new acts given found (Err f)
+        → Ends g old new all given found (Err f)
     unreported_next done new answer found f answered leaves rest connection silent gone =
-        let low : i ≤ length acts = omega (arith, within) in
-        let added : (s : State) → s.office ≡ old.office → found ≡ given ++ answers s (take i acts) = λ s same. ◌∙◌ {A = List Answer} silent (so_far.added s same) in
         let so = rest_next done rest in
         let clean_done : HasCleanDisk (state g new.connection) → HasCleanDisk (state g done.connection) = subst (λ it. HasCleanDisk (state g it)) connection in
         record {
-          answered = λ s same.
-              stopped_answered s acts given found f i low (added s same) new formed (inl within) (stops_reopen (after s (take i acts)).office f new gone.reopen gone.gone);
-          leaves = λ s clean at.
+          answered = answered_first new found f silent (λ s same. stops_reopen (after s (take i acts)).office f new gone.reopen gone.gone);
+          leaves = leaves_first new found f silent (λ s clean at.
               let next = leaves (after s (take i acts)) (clean_done clean) (at_mid s (rest.clean (clean_done clean)) at) in
-              stopped_leaves s acts given found f i low (added s (sym at.office)) (state g new.connection)
-              (subst (λ (t : State). StopsLeaving (after s (take i acts)) t f (state g new.connection)) (sym (after_next acts i a within is s))
-              (leaves_reopen g (after s (take i acts)) (step (after s (take i acts)) a).1 f done new gone.reopen connection next.rows));
+              leaves_reopen g (after s (take i acts)) (step (after s (take i acts)) a).1 f done new gone.reopen connection next.rows);
           rest = record {
             clean = λ clean. so.clean (clean_done clean);
             shield = λ shielded. subst (λ it. (state g it).IsShielded) (sym connection) (so.shield shielded);

@@ -5,10 +5,12 @@ ghost use Rattle.office_rules.specs.Acts.{CanBeMade};
 ghost use Rattle.office_rules.specs.Forms.{AreWellFormed};
 ghost use Rattle.office_rules.specs.State.{State};
 ghost use Rattle.office_desk.specs.Calling.{ChangeLeaves, IsMade, IsNotMade, IsPoisoned};
+ghost use Rattle.office_desk.specs.Guarded.{AreGuarded, guarded_outcome, permitted_acts};
 ghost use Rattle.office_desk.specs.Outcomes.{ActsCameTo, ActsLeave, AreAnswered, FromEach, IsActAnswered, SparesTheRest, act_outcome, acts_outcome};
 
 use crate::Desk;
 use crate::fates::law_of_fates;
+use crate::guard::{Guard, NoGuard};
 use office_rules::laws::resumption::law_of_resumption;
 use office_rules::{Act, Answer, Change, Decision};
 use office_store::Fault;
@@ -91,22 +93,29 @@ impl<S: Alter> Desk<S> {
         Ok(())
     }
 
-    /// One act after another, by a desk that is open.
-    fn perform_open(&mut self, acts: &[Act], answers: &mut Vec<Answer>) -> Result<(), Fault>
+    /// Performs one act after another, at a desk that is open, up to the first that the guard does
+    /// not permit.
+    fn perform_open<G: Guard>(&mut self, guard: &G, acts: &[Act], answers: &mut Vec<Answer>)
+        -> Result<bool, Fault>
         requires open { self.old.is_poisoned ≡ false }
         requires formed { AreWellFormed acts.now }
         ensures answered { (s : State) → s.office ≡ self.old.office
-            → AreAnswered s acts.now (acts_outcome result answers.old.items answers.new.items)
-            answers.old.items answers.new.items self.new }
-        ensures leaves { FromEach S.Store self.old self.new (λ s. ActsLeave s acts.now
-            (acts_outcome result answers.old.items answers.new.items) (state S.Store self.new.connection)) }
+            → AreGuarded (G.permits guard.now) s acts.now result answers.old.items
+            answers.new.items self.new }
+        ensures leaves { FromEach S.Store self.old self.new (λ s. ActsLeave s
+            (permitted_acts (G.permits guard.now) s acts.now)
+            (guarded_outcome result answers.old.items answers.new.items)
+            (state S.Store self.new.connection)) }
         ensures rest { SparesTheRest S.Store self.old self.new }
     {
         for act in acts {
+            if !guard.permits(self.machine(), act) {
+                return Ok(false);
+            }
             let answer = self.perform_one(act)?;
             self.report(answer, answers)?;
         }
-        Ok(())
+        Ok(true)
     }
 
     /// One act: it is decided, saved in one transaction, done in memory and answered. A refusal is
@@ -166,6 +175,40 @@ impl<S: Alter> Desk<S> {
         // The rest of the file stays as it was.
         ensures rest { SparesTheRest S.Store self.old self.new }
     {
+        match self.perform_guarded(&NoGuard, acts, answers) {
+            Ok(_) => Ok(()),
+            Err(fault) => Err(fault),
+        }
+    }
+
+    /// Performs the acts before the first that the guard does not permit, as `perform_all` does,
+    /// and returns whether they are all. The guard judges each act in the office in which the act is
+    /// then done, after the acts before it. An act that is not permitted is not begun, nor any
+    /// behind it. An act at which a fault stopped was permitted too.
+    pub fn perform_guarded<G: Guard>(
+        &mut self,
+        guard: &G,
+        acts: &[Act],
+        answers: &mut Vec<Answer>,
+    ) -> Result<bool, Fault>
+        // A poisoned desk stays as it is, and adds no answer.
+        ensures gone { IsTrue self.old.is_poisoned → (result ≡ Err Fault.Reopen)
+            × (self.new ≡ self.old) × (answers.new.items ≡ answers.old.items) }
+
+        // An open one does the permitted acts in order, and adds their answers.
+        ensures answered { (s : State) → self.old.is_poisoned ≡ false → s.office ≡ self.old.office
+            → AreGuarded (G.permits guard.now) s acts.now result answers.old.items
+            answers.new.items self.new }
+
+        // A crash leaves the tables after the answered acts, or after one more that is permitted.
+        ensures leaves { FromEach S.Store self.old self.new (λ s. ActsCameTo s
+            (permitted_acts (G.permits guard.now) s acts.now)
+            (guarded_outcome result answers.old.items answers.new.items)
+            (state S.Store self.new.connection)) }
+
+        // The rest of the file stays as it was.
+        ensures rest { SparesTheRest S.Store self.old self.new }
+    {
         law_of_fates();
         law_of_resumption();
         if self.is_poisoned {
@@ -175,6 +218,6 @@ impl<S: Alter> Desk<S> {
         if answers.try_reserve(acts.len()).is_err() {
             return Err(Fault::Memory);
         }
-        self.perform_open(acts, answers)
+        self.perform_open(guard, acts, answers)
     }
 }

@@ -9,13 +9,21 @@ ghost use Rattle.office_desk.specs.Calling.{Reads};
 
 use crate::Desk;
 use office_days::{ConfirmDays, Day};
-use office_machine::{DueRows, EntryRows};
+use office_machine::{DueRows, EntryRows, Machine};
 use office_records::RecordNo;
 use office_rules::{Entry, RecordView, RunNo};
 use office_store::Fault;
 use sqlite::Alter;
 
 impl<S: Alter> Desk<S> {
+    /// Gives the office in memory, by which its readings are reached; that of a poisoned desk may
+    /// not be the one of the tables.
+    pub fn machine(&self) -> &Machine
+        ensures { result.now ≡ self.now.office }
+    {
+        &self.machine
+    }
+
     /// Refuses where the desk was poisoned.
     fn check_open(&self) -> Result<(), Fault>
         ensures ok { OnOk result (self.now.is_poisoned ≡ false) }
