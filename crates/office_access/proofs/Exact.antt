@@ -1,28 +1,34 @@
--- No reason to deny an act holds exactly where it is permitted.
-use Rattle.std.proofs.Common.{◌≡◌, ◌≢◌, ◌↔◌, inl, inr, ℕ, zero, suc, ◌+◌, ◌<◌, ◌≤◌, nat_le, Bool, true, false, cond, not, ◌&&◌, ◌||◌, IsTrue, List, [], ◌∷◌, length, Option, Some, None, refl, sym, ap, ◌∙◌, arith}
+-- No reason to deny an act holds exactly if the act is permitted.
+use Rattle.std.proofs.Common.{◌≡◌, ◌↔◌, ℕ, ℤ, Bool, true, false, cond, not, ◌&&◌, ◌||◌, IsTrue, List, [], ◌∷◌, Option, Some, None, refl, sym, ap, ◌∙◌}
 use Rattle.std.specs.Prelude.{IfSome}
-use Rattle.std.specs.List.{All, AllPass, list_all, list_any}
+use Rattle.std.specs.List.{All, AllPass, find, list_all, list_any}
+use Rattle.std.specs.Option.{option_map}
 use Rattle.std.specs.Str.{bytes_eq}
-use Rattle.std.proofs.lemmas.Bool.{and_parts, and_from, cases_lt}
-use Rattle.std.proofs.lemmas.Bool.Decides.{nat_tests}
+use Rattle.std.proofs.lemmas.Bool.{and_parts}
 use Rattle.std.proofs.lemmas.List.Sums.{AllPass-from_list_all, list_all-from_AllPass}
 use Rattle.std.proofs.lemmas.Slice.Eq.{bytes_eq-Decides}
-use Rattle.office_records.specs.Lists.{is_some_and, numbers_after}
-use Rattle.office_records.specs.Tree.{TreeState, has_record}
+use Rattle.office_records.specs.Lists.{or_else}
+use Rattle.office_records.specs.Tree.{TreeState}
 use Rattle.office_rules.specs.State.{Office}
 use Rattle.office_rules.specs.declared.act.Act.{Act}
 use Rattle.office_rules.specs.declared.act.Act.TheVariants as act
 use Rattle.office_access.specs.declared.right.Right.{Right}
-use Rattle.office_access.specs.Kinds.{kind_of, same_kind}
-use Rattle.office_access.specs.Permits.{Permits, denial_by, denial_of, denials_to, first_denial, has_confirmed, has_confirmed_any, is_confirmed_by_opener, is_step_of_opener, opener_of}
-use Rattle.office_access.specs.Rights.{covers, is_right, may_at_all, may_in, person_named}
+use Rattle.office_access.specs.Eyes.{forbids, is_opener}
+use Rattle.office_access.specs.Kinds.{day_of, power_for, same_power}
+use Rattle.office_access.specs.Permits.{Permits, PermitsResumption, all_rules, denial_by, denial_of, first_denial, is_timely, resumption_denial_by, resumption_denial_of, right_denials, rule_against}
+use Rattle.office_access.specs.Rights.{covers, is_right, may_at_all, may_in}
+use Rattle.office_access.specs.Settings.{Settings, grants_of, signs}
 use Rattle.office_access.specs.Signing.{is_signed, signature_of}
 use Rattle.office_access.specs.Subjects.{classes_of, put_into}
 use Rattle.office_access.specs.declared.denial.Denial.{Denial}
-use Rattle.office_access.specs.declared.kind.Kind.{Kind}
-use Rattle.office_access.specs.declared.kind.Kind.TheVariants as kind
-use Rattle.office_access.specs.declared.person.Person.{Person}
-use Rattle.office_access.specs.declared.policy.Policy.{Policy}
+use Rattle.office_access.specs.declared.denial.Denial.TheVariants as denial
+use Rattle.office_access.specs.declared.grants.Grants.{Grants}
+use Rattle.office_access.specs.declared.person.SignIn.{SignIn}
+use Rattle.office_access.specs.declared.power.Power.{Power}
+use Rattle.office_access.specs.declared.power.Power.TheVariants as power
+use Rattle.office_access.specs.declared.rule.Rule.{Rule}
+use Rattle.office_access.specs.declared.rule.Rule.TheVariants as rule
+use Rattle.office_access.specs.declared.rule.Rules.{Rules}
 
 -- ---- tests
 
@@ -33,189 +39,86 @@ not_off false h = absurd cc
 off_not : (b : Bool) → b ≡ true → not b ≡ false
 off_not b h = ap not h
 
-or_parts : (a b : Bool) → (a || b) ≡ false → (a ≡ false) × (b ≡ false)
-or_parts true b h = absurd cc
-or_parts false b h = (refl, h)
-
-or_from : (a b : Bool) → a ≡ false → b ≡ false → (a || b) ≡ false
-or_from a b x y = ap (λ v. v || b) x ∙ y
-
--- one that is not on, where the other is
-then_off : (a b : Bool) → (a && b) ≡ false → a ≡ true → b ≡ false
-then_off true b h is = h
-then_off false b h is = absurd cc
-
-off_by : (a b : Bool) → (a ≡ true → b ≡ false) → (a && b) ≡ false
-off_by true b h = h refl
-off_by false b h = refl
-
--- ---- the opener
-
-other_opener : (opener : Option (List ℕ)) (signs : List ℕ) → is_some_and opener (bytes_eq signs) ≡ false → opener ≢ Some signs
-other_opener opener signs h same =
-    let is : is_some_and opener (bytes_eq signs) ≡ true = ap (λ (o : Option (List ℕ)). is_some_and o (bytes_eq signs)) same ∙ (bytes_eq-Decides signs signs).1 refl in
-    absurd (cc)
-
-not_opener : (signs name : List ℕ) (b : Bool) → bytes_eq signs name ≡ b → (Some name ≢ Some signs) → b ≡ false
-not_opener signs name true is other = absurd (other (ap Some (sym ((bytes_eq-Decides signs name).0 is))))
-not_opener signs name false is other = refl
-
-no_opener : (opener : Option (List ℕ)) (signs : List ℕ) → opener ≢ Some signs → is_some_and opener (bytes_eq signs) ≡ false
-no_opener None signs other = refl
-no_opener (Some name) signs other = not_opener signs name (bytes_eq signs name) refl other
-
--- ---- records that one confirmed
-
-any_none : (test : ℕ → Bool) (count from r : ℕ) → list_any test (numbers_after from count) ≡ false → from < r → r ≤ from + count → test r ≡ false
-any_none test zero from r h low high = absurd (omega arith)
-any_none test (suc count) from r h low high =
-    let parts = or_parts (test (suc from)) (list_any test (numbers_after (suc from) count)) h in
-    elim (cases_lt (suc from) r) [
-      inl after ↦ any_none test count (suc from) r parts.1 after (omega (arith, high))
-    | inr here ↦ let same : r ≡ suc from = omega arith in ap test same ∙ parts.0
-    ]
-
-none_any : (test : ℕ → Bool) (count from : ℕ) → ((r : ℕ) → from < r → r ≤ from + count → test r ≡ false) → list_any test (numbers_after from count) ≡ false
-none_any test zero from h = refl
-none_any test (suc count) from h =
-    or_from (test (suc from)) (list_any test (numbers_after (suc from) count)) (h (suc from) (omega arith) (omega arith))
-    (none_any test count (suc from) (λ r low high. h r (omega (arith, low)) (omega (arith, high))))
-
-within : (n r : ℕ) → (nat_le 1 r && nat_le r n) ≡ true → (0 < r) × (r ≤ 0 + n)
-within n r h = (grind (arith, nat_tests), grind (arith, nat_tests))
-
-is_within : (n r : ℕ) → 0 < r → r ≤ 0 + n → (nat_le 1 r && nat_le r n) ≡ true
-is_within n r low high = grind (arith, nat_tests)
-
-has_none : (tree : TreeState) (signs : List ℕ) → has_confirmed_any tree signs ≡ false → (r : ℕ) → IsTrue (has_record tree r) → has_confirmed tree signs r ≡ false
-has_none tree signs h r there =
-    let at = within (length tree.records) r there in
-    any_none (has_confirmed tree signs) (length tree.records) 0 r h at.0 at.1
-
-none_has : (tree : TreeState) (signs : List ℕ) → ((r : ℕ) → IsTrue (has_record tree r) → has_confirmed tree signs r ≡ false) → has_confirmed_any tree signs ≡ false
-none_has tree signs h = none_any (has_confirmed tree signs) (length tree.records) 0 (λ r low high. h r (is_within (length tree.records) r low high))
-
 -- ---- what an act says of who did it
 
-signed_by : (signs : List ℕ) (signature : Option (List ℕ)) → is_signed signs signature ≡ true → IfSome signature (λ by. by ≡ signs)
+pub signed_by : (signs : List ℕ) (signature : Option (List ℕ)) → is_signed signs signature ≡ true → IfSome signature (λ by. by ≡ signs)
 signed_by signs None h = tt
 signed_by signs (Some by) h = (bytes_eq-Decides by signs).0 h
 
-by_signed : (signs : List ℕ) (signature : Option (List ℕ)) → IfSome signature (λ by. by ≡ signs) → is_signed signs signature ≡ true
+pub by_signed : (signs : List ℕ) (signature : Option (List ℕ)) → IfSome signature (λ by. by ≡ signs) → is_signed signs signature ≡ true
 by_signed signs None h = refl
 by_signed signs (Some by) h = (bytes_eq-Decides by signs).1 h
 
--- ---- kinds
-
-is_step : (k : Kind) → same_kind k kind.RunStep ≡ true → k ≡ kind.RunStep
-is_step kind.RunStep h = refl
-is_step _ h = absurd cc
-
-is_open : (k : Kind) → same_kind k kind.OpenRun ≡ true → k ≡ kind.OpenRun
-is_open kind.OpenRun h = refl
-is_open _ h = absurd cc
-
-is_confirm : (k : Kind) → same_kind k kind.Confirm ≡ true → k ≡ kind.Confirm
-is_confirm kind.Confirm h = refl
-is_confirm _ h = absurd cc
-
--- ---- the rules of two people
-
-step_held : (policy : Policy) (opener : Option (List ℕ)) (signs : List ℕ) (act : Act) → is_step_of_opener policy opener signs act ≡ false
-    → policy.opener_takes_no_step ≡ true → kind_of act ≡ kind.RunStep → opener ≢ Some signs
-step_held policy opener signs act h on of_kind =
-    let is : same_kind (kind_of act) kind.RunStep ≡ true = ap (λ k. same_kind k kind.RunStep) of_kind in
-    let both = and_from policy.opener_takes_no_step (same_kind (kind_of act) kind.RunStep) on is in
-    other_opener opener signs (then_off (policy.opener_takes_no_step && same_kind (kind_of act) kind.RunStep) (is_some_and opener (bytes_eq signs)) h both)
-
-held_step : (policy : Policy) (opener : Option (List ℕ)) (signs : List ℕ) (act : Act)
-    → (policy.opener_takes_no_step ≡ true → kind_of act ≡ kind.RunStep → opener ≢ Some signs) → is_step_of_opener policy opener signs act ≡ false
-held_step policy opener signs act h =
-    off_by (policy.opener_takes_no_step && same_kind (kind_of act) kind.RunStep) (is_some_and opener (bytes_eq signs)) (λ both.
-    let parts = and_parts policy.opener_takes_no_step (same_kind (kind_of act) kind.RunStep) both in
-    no_opener opener signs (h parts.0 (is_step (kind_of act) parts.1)))
-
--- the choice between the two parts of the other rule
-confirmed_by : Bool → Bool → Bool → Bool
-confirmed_by opens any confirms = cond opens any confirms
-
-opening_held : (policy : Policy) (tree : TreeState) (opener : Option (List ℕ)) (signs : List ℕ) (act : Act) → is_confirmed_by_opener policy tree opener signs act ≡ false
-    → policy.confirmer_opens_no_run ≡ true → kind_of act ≡ kind.OpenRun → has_confirmed_any tree signs ≡ false
-opening_held policy tree opener signs act h on of_kind =
-    let rest = then_off policy.confirmer_opens_no_run (cond (same_kind (kind_of act) kind.OpenRun) (has_confirmed_any tree signs) (same_kind (kind_of act) kind.Confirm && is_some_and opener (bytes_eq signs))) h on in
-    let at : cond (same_kind (kind_of act) kind.OpenRun) (has_confirmed_any tree signs) (same_kind (kind_of act) kind.Confirm && is_some_and opener (bytes_eq signs)) ≡ has_confirmed_any tree signs
-        = ap (λ k. cond (same_kind k kind.OpenRun) (has_confirmed_any tree signs) (same_kind k kind.Confirm && is_some_and opener (bytes_eq signs))) of_kind in
-    sym at ∙ rest
-
-confirming_held : (policy : Policy) (tree : TreeState) (opener : Option (List ℕ)) (signs : List ℕ) (act : Act) → is_confirmed_by_opener policy tree opener signs act ≡ false
-    → policy.confirmer_opens_no_run ≡ true → kind_of act ≡ kind.Confirm → opener ≢ Some signs
-confirming_held policy tree opener signs act h on of_kind =
-    let rest = then_off policy.confirmer_opens_no_run (cond (same_kind (kind_of act) kind.OpenRun) (has_confirmed_any tree signs) (same_kind (kind_of act) kind.Confirm && is_some_and opener (bytes_eq signs))) h on in
-    let at : cond (same_kind (kind_of act) kind.OpenRun) (has_confirmed_any tree signs) (same_kind (kind_of act) kind.Confirm && is_some_and opener (bytes_eq signs)) ≡ is_some_and opener (bytes_eq signs)
-        = ap (λ k. cond (same_kind k kind.OpenRun) (has_confirmed_any tree signs) (same_kind k kind.Confirm && is_some_and opener (bytes_eq signs))) of_kind in
-    other_opener opener signs (sym at ∙ rest)
-
-choice_off : (b any confirms : Bool) → (b ≡ true → any ≡ false) → confirms ≡ false → cond b any confirms ≡ false
-choice_off true any confirms h rest = h refl
-choice_off false any confirms h rest = rest
-
-held_confirmed : (policy : Policy) (tree : TreeState) (opener : Option (List ℕ)) (signs : List ℕ) (act : Act)
-    → (policy.confirmer_opens_no_run ≡ true → kind_of act ≡ kind.OpenRun → has_confirmed_any tree signs ≡ false)
-    → (policy.confirmer_opens_no_run ≡ true → kind_of act ≡ kind.Confirm → opener ≢ Some signs)
-    → is_confirmed_by_opener policy tree opener signs act ≡ false
-held_confirmed policy tree opener signs act opening confirming =
-    off_by policy.confirmer_opens_no_run (cond (same_kind (kind_of act) kind.OpenRun) (has_confirmed_any tree signs) (same_kind (kind_of act) kind.Confirm && is_some_and opener (bytes_eq signs))) (λ on.
-    choice_off (same_kind (kind_of act) kind.OpenRun) (has_confirmed_any tree signs) (same_kind (kind_of act) kind.Confirm && is_some_and opener (bytes_eq signs))
-    (λ is. opening on (is_open (kind_of act) is))
-    (off_by (same_kind (kind_of act) kind.Confirm) (is_some_and opener (bytes_eq signs)) (λ is. no_opener opener signs (confirming on (is_confirm (kind_of act) is)))))
-
 -- ---- the table
 
-none_of : (d : Denial) (b : Bool) (rest : Option Denial) → cond b (Some d) rest ≡ None → (b ≡ false) × (rest ≡ None)
+none_of : {A : Type 0} (d : A) (b : Bool) (rest : Option A) → cond b (Some d) rest ≡ None → (b ≡ false) × (rest ≡ None)
 none_of d true rest h = absurd cc
 none_of d false rest h = (refl, h)
 
-of_none : (d : Denial) (b : Bool) (rest : Option Denial) → b ≡ false → rest ≡ None → cond b (Some d) rest ≡ None
+of_none : {A : Type 0} (d : A) (b : Bool) (rest : Option A) → b ≡ false → rest ≡ None → cond b (Some d) rest ≡ None
 of_none d b rest off h = ap (λ v. cond v (Some d) rest) off ∙ h
 
--- each test of a person's table
-record Clear (policy : Policy) (tree : TreeState) (opener : Option (List ℕ)) (person : Person) (act : Act) : Type 0 where
-  at_all : may_at_all person (kind_of act) ≡ true
-  signed : is_signed person.signs (signature_of act) ≡ true
-  in_all : list_all (may_in person (kind_of act)) (classes_of tree act) ≡ true
-  no_step : is_step_of_opener policy opener person.signs act ≡ false
-  no_confirmer : is_confirmed_by_opener policy tree opener person.signs act ≡ false
+none_both : {A : Type 0} (x y : Option A) → or_else x y ≡ None → (x ≡ None) × (y ≡ None)
+none_both None y h = (refl, h)
+none_both (Some d) y h = absurd cc
 
-clear_of : (policy : Policy) (tree : TreeState) (opener : Option (List ℕ)) (person : Person) (act : Act) → first_denial (denials_to policy tree opener person act) ≡ None → Clear policy tree opener person act
-clear_of policy tree opener person act h =
-    let a = none_of _ (not (may_at_all person (kind_of act))) _ h in
-    let b = none_of _ (not (is_signed person.signs (signature_of act))) _ a.1 in
-    let c = none_of _ (not (list_all (may_in person (kind_of act)) (classes_of tree act))) _ b.1 in
-    let d = none_of _ (is_step_of_opener policy opener person.signs act) _ c.1 in
-    let e = none_of _ (is_confirmed_by_opener policy tree opener person.signs act) _ d.1 in
-    record { at_all = not_off _ a.0; signed = not_off _ b.0; in_all = not_off _ c.0; no_step = d.0; no_confirmer = e.0 }
+both_none : {A : Type 0} (x y : Option A) → x ≡ None → y ≡ None → or_else x y ≡ None
+both_none x y none rest = ap (λ o. or_else o y) none ∙ rest
 
-of_clear : (policy : Policy) (tree : TreeState) (opener : Option (List ℕ)) (person : Person) (act : Act) → Clear policy tree opener person act → first_denial (denials_to policy tree opener person act) ≡ None
-of_clear policy tree opener person act h =
-    of_none _ (not (may_at_all person (kind_of act))) _ (off_not _ h.at_all)
-    (of_none _ (not (is_signed person.signs (signature_of act))) _ (off_not _ h.signed)
-    (of_none _ (not (list_all (may_in person (kind_of act)) (classes_of tree act))) _ (off_not _ h.in_all)
-    (of_none _ (is_step_of_opener policy opener person.signs act) _ h.no_step
-    (of_none _ (is_confirmed_by_opener policy tree opener person.signs act) _ h.no_confirmer refl))))
+none_mapped : (o : Option Rule) → option_map denial.Eyes o ≡ None → o ≡ None
+none_mapped None h = refl
+none_mapped (Some r) h = absurd cc
 
-permits_of : (policy : Policy) (s : Office) (name : List ℕ) (act : Act) (o : Option Person) → person_named policy name ≡ o → denial_by policy s.tree (opener_of s) o act ≡ None → Permits policy s name act
-permits_of policy s name act None e h = absurd cc
-permits_of policy s name act (Some person) e h =
-    let clear = clear_of policy s.tree (opener_of s) person act h in
-    record {
-      person = person;
-      known = e;
-      right = AllPass-from_list_all (may_in person (kind_of act)) (classes_of s.tree act) clear.in_all;
-      signed = signed_by person.signs (signature_of act) clear.signed;
-      step = step_held policy (opener_of s) person.signs act clear.no_step;
-      opening = λ on of_kind. has_none s.tree person.signs (opening_held policy s.tree (opener_of s) person.signs act clear.no_confirmer on of_kind);
-      confirming = confirming_held policy s.tree (opener_of s) person.signs act clear.no_confirmer;
-    }
+mapped_none : (o : Option Rule) → o ≡ None → option_map denial.Eyes o ≡ None
+mapped_none o h = ap (λ x. option_map denial.Eyes x) h
+
+-- no rule forbids, where none is found that does
+none_forbids : (test : Rule → Bool) → find test all_rules ≡ None → (r : Rule) → test r ≡ false
+none_forbids test h =
+    let a = none_of rule.OpenerDoesNotCarryOut (test rule.OpenerDoesNotCarryOut) _ h in
+    let b = none_of rule.ConfirmerDoesNotOpen (test rule.ConfirmerDoesNotOpen) _ a.1 in
+    let c = none_of rule.ChangerDoesNotOpen (test rule.ChangerDoesNotOpen) _ b.1 in
+    let d = none_of rule.SenderDoesNotReceive (test rule.SenderDoesNotReceive) _ c.1 in
+    let e = none_of rule.ReceiverDoesNotOpen (test rule.ReceiverDoesNotOpen) _ d.1 in
+    each a.0 b.0 c.0 d.0 e.0
+  where
+    each : test rule.OpenerDoesNotCarryOut ≡ false → test rule.ConfirmerDoesNotOpen ≡ false → test rule.ChangerDoesNotOpen ≡ false → test rule.SenderDoesNotReceive ≡ false → test rule.ReceiverDoesNotOpen ≡ false
+        → (r : Rule) → test r ≡ false
+    each a b c d e rule.OpenerDoesNotCarryOut = a
+    each a b c d e rule.ConfirmerDoesNotOpen = b
+    each a b c d e rule.ChangerDoesNotOpen = c
+    each a b c d e rule.SenderDoesNotReceive = d
+    each a b c d e rule.ReceiverDoesNotOpen = e
+
+forbids_none : (test : Rule → Bool) → ((r : Rule) → test r ≡ false) → find test all_rules ≡ None
+forbids_none test h =
+    of_none rule.OpenerDoesNotCarryOut (test rule.OpenerDoesNotCarryOut) _ (h rule.OpenerDoesNotCarryOut)
+    (of_none rule.ConfirmerDoesNotOpen (test rule.ConfirmerDoesNotOpen) _ (h rule.ConfirmerDoesNotOpen)
+    (of_none rule.ChangerDoesNotOpen (test rule.ChangerDoesNotOpen) _ (h rule.ChangerDoesNotOpen)
+    (of_none rule.SenderDoesNotReceive (test rule.SenderDoesNotReceive) _ (h rule.SenderDoesNotReceive)
+    (of_none rule.ReceiverDoesNotOpen (test rule.ReceiverDoesNotOpen) _ (h rule.ReceiverDoesNotOpen) refl))))
+
+-- each test of the rights
+record Clear (s : Office) (today : ℤ) (signs : List ℕ) (grants : Grants) (act : Act) : Type 0 where
+  at_all : may_at_all grants (power_for act) ≡ true
+  signed : is_signed signs (signature_of act) ≡ true
+  timely : is_timely today grants (day_of act) ≡ true
+  in_all : list_all (may_in grants (power_for act)) (classes_of s.tree act) ≡ true
+
+clear_of : (s : Office) (today : ℤ) (signs : List ℕ) (grants : Grants) (act : Act) → first_denial (right_denials s today signs grants act) ≡ None → Clear s today signs grants act
+clear_of s today signs grants act h =
+    let a = none_of denial.Right (not (may_at_all grants (power_for act))) _ h in
+    let b = none_of denial.By (not (is_signed signs (signature_of act))) _ a.1 in
+    let c = none_of denial.Future (not (is_timely today grants (day_of act))) _ b.1 in
+    let d = none_of denial.Class (not (list_all (may_in grants (power_for act)) (classes_of s.tree act))) _ c.1 in
+    record { at_all = not_off _ a.0; signed = not_off _ b.0; timely = not_off _ c.0; in_all = not_off _ d.0 }
+
+of_clear : (s : Office) (today : ℤ) (signs : List ℕ) (grants : Grants) (act : Act) → Clear s today signs grants act → first_denial (right_denials s today signs grants act) ≡ None
+of_clear s today signs grants act h =
+    of_none denial.Right (not (may_at_all grants (power_for act))) _ (off_not _ h.at_all)
+    (of_none denial.By (not (is_signed signs (signature_of act))) _ (off_not _ h.signed)
+    (of_none denial.Future (not (is_timely today grants (day_of act))) _ (off_not _ h.timely)
+    (of_none denial.Class (not (list_all (may_in grants (power_for act)) (classes_of s.tree act))) _ (off_not _ h.in_all) refl)))
 
 -- ---- who may in a class may at all
 
@@ -228,9 +131,9 @@ any_sooner p q (x ∷ rest) sooner h = or_either (p x) (list_any p rest) (q x) (
     or_either false b true d f g h = refl
     or_either false b false d f g h = g h
 
-at_all_of : (person : Person) (k : Kind) (class : Option (List ℕ)) → may_in person k class ≡ true → may_at_all person k ≡ true
-at_all_of person k class h =
-    any_sooner (is_right k class) (λ right. same_kind right.kind k) person.rights.items (λ right is. (and_parts (same_kind right.kind k) (covers class right) is).0) h
+at_all_of : (grants : Grants) (p : Power) (class : Option (List ℕ)) → may_in grants p class ≡ true → may_at_all grants p ≡ true
+at_all_of grants p class h =
+    any_sooner (is_right p class false) (λ right. same_power right.power p) grants.rights.items (λ right is. (and_parts (same_power right.power p) (covers class false right) is).0) h
 
 -- an act is about one class at least
 abbrev IsAboutSome : TreeState → Act → Type 0
@@ -244,26 +147,59 @@ about_some : (tree : TreeState) (it : Act) → IsAboutSome tree it
 about_some tree (act.AddAggregation day ref_text title parent class) = put_some tree parent class
 about_some tree _ = (_, _, refl)
 
-at_all_by : (person : Person) (k : Kind) (tree : TreeState) (it : Act) → list_all (may_in person k) (classes_of tree it) ≡ true → may_at_all person k ≡ true
-at_all_by person k tree it h =
+at_all_by : (grants : Grants) (p : Power) (tree : TreeState) (it : Act) → list_all (may_in grants p) (classes_of tree it) ≡ true → may_at_all grants p ≡ true
+at_all_by grants p tree it h =
     let some = about_some tree it in
-    let all : (may_in person k some.0 && list_all (may_in person k) some.1) ≡ true = sym (ap (list_all (may_in person k)) some.2) ∙ h in
-    at_all_of person k some.0 (and_parts (may_in person k some.0) (list_all (may_in person k) some.1) all).0
+    let all : (may_in grants p some.0 && list_all (may_in grants p) some.1) ≡ true = sym (ap (list_all (may_in grants p)) some.2) ∙ h in
+    at_all_of grants p some.0 (and_parts (may_in grants p some.0) (list_all (may_in grants p) some.1) all).0
 
-denial_known : (policy : Policy) (s : Office) (name : List ℕ) (it : Act) (person : Person) → person_named policy name ≡ Some person → first_denial (denials_to policy s.tree (opener_of s) person it) ≡ None → denial_of policy s name it ≡ None
-denial_known policy s name it person known h = ap (λ o. denial_by policy s.tree (opener_of s) o it) known ∙ h
+-- ---- both ways
 
-none_of_permits : (policy : Policy) (s : Office) (name : List ℕ) (it : Act) → Permits policy s name it → denial_of policy s name it ≡ None
-none_of_permits policy s name it h =
-    let in_all = list_all-from_AllPass (may_in h.person (kind_of it)) (classes_of s.tree it) h.right in
-    let clear : Clear policy s.tree (opener_of s) h.person it = record {
-      at_all = at_all_by h.person (kind_of it) s.tree it in_all;
-      signed = by_signed h.person.signs (signature_of it) h.signed;
+permits_of : (settings : Settings) (s : Office) (today : ℤ) (name : SignIn) (it : Act) (o : Option Grants) → grants_of settings name ≡ o → denial_by settings s today (signs settings name) it o ≡ None → Permits settings s today name it
+permits_of settings s today name it None e h = absurd cc
+permits_of settings s today name it (Some grants) e h =
+    let both = none_both (first_denial (right_denials s today (signs settings name) grants it)) (option_map denial.Eyes (rule_against settings.rules s (signs settings name) grants it)) h in
+    let clear = clear_of s today (signs settings name) grants it both.0 in
+    record {
+      grants = grants;
+      known = e;
+      right = AllPass-from_list_all (may_in grants (power_for it)) (classes_of s.tree it) clear.in_all;
+      signed = signed_by (signs settings name) (signature_of it) clear.signed;
+      timely = clear.timely;
+      apart = none_forbids (forbids settings.rules s (signs settings name) grants it) (none_mapped (rule_against settings.rules s (signs settings name) grants it) both.1);
+    }
+
+none_of_permits : (settings : Settings) (s : Office) (today : ℤ) (name : SignIn) (it : Act) → Permits settings s today name it → denial_of settings s today name it ≡ None
+none_of_permits settings s today name it h =
+    let in_all = list_all-from_AllPass (may_in h.grants (power_for it)) (classes_of s.tree it) h.right in
+    let clear : Clear s today (signs settings name) h.grants it = record {
+      at_all = at_all_by h.grants (power_for it) s.tree it in_all;
+      signed = by_signed (signs settings name) (signature_of it) h.signed;
+      timely = h.timely;
       in_all = in_all;
-      no_step = held_step policy (opener_of s) h.person.signs it h.step;
-      no_confirmer = held_confirmed policy s.tree (opener_of s) h.person.signs it (λ on of_kind. none_has s.tree h.person.signs (h.opening on of_kind)) h.confirming;
     } in
-    denial_known policy s name it h.person h.known (of_clear policy s.tree (opener_of s) h.person it clear)
+    ap (λ o. denial_by settings s today (signs settings name) it o) h.known
+    ∙ both_none (first_denial (right_denials s today (signs settings name) h.grants it)) (option_map denial.Eyes (rule_against settings.rules s (signs settings name) h.grants it))
+    (of_clear s today (signs settings name) h.grants it clear)
+    (mapped_none (rule_against settings.rules s (signs settings name) h.grants it) (forbids_none (forbids settings.rules s (signs settings name) h.grants it) h.apart))
 
-pub permits_exactly : (policy : Policy) (s : Office) (name : List ℕ) (it : Act) → (denial_of policy s name it ≡ None) ↔ Permits policy s name it
-permits_exactly policy s name it = (permits_of policy s name it (person_named policy name) refl, none_of_permits policy s name it)
+pub permits_exactly : (settings : Settings) (s : Office) (today : ℤ) (name : SignIn) (it : Act) → (denial_of settings s today name it ≡ None) ↔ Permits settings s today name it
+permits_exactly settings s today name it = (permits_of settings s today name it (grants_of settings name) refl, none_of_permits settings s today name it)
+
+-- ---- a resumption
+
+resumes_of : (settings : Settings) (s : Office) (name : SignIn) (o : Option Grants) → grants_of settings name ≡ o → resumption_denial_by settings s (signs settings name) o ≡ None → PermitsResumption settings s name
+resumes_of settings s name None e h = absurd cc
+resumes_of settings s name (Some grants) e h =
+    let a = none_of denial.Right (not (may_in grants power.Resume None)) _ h in
+    let b = none_of (denial.Eyes rule.OpenerDoesNotCarryOut) (settings.rules.opener_does_not_carry_out && is_opener s (signs settings name)) _ a.1 in
+    record { grants = grants; known = e; right = not_off _ a.0; apart = b.0 }
+
+none_of_resumes : (settings : Settings) (s : Office) (name : SignIn) → PermitsResumption settings s name → resumption_denial_of settings s name ≡ None
+none_of_resumes settings s name h =
+    ap (λ o. resumption_denial_by settings s (signs settings name) o) h.known
+    ∙ of_none denial.Right (not (may_in h.grants power.Resume None)) _ (off_not _ h.right)
+    (of_none (denial.Eyes rule.OpenerDoesNotCarryOut) (settings.rules.opener_does_not_carry_out && is_opener s (signs settings name)) _ h.apart refl)
+
+pub resumes_exactly : (settings : Settings) (s : Office) (name : SignIn) → (resumption_denial_of settings s name ≡ None) ↔ PermitsResumption settings s name
+resumes_exactly settings s name = (resumes_of settings s name (grants_of settings name) refl, none_of_resumes settings s name)

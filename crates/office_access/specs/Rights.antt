@@ -1,9 +1,10 @@
 -- What the rights of a name allow. Source: own.
-use Rattle.std.specs.Prelude.{ℕ, Bool, true, false, not, ◌&&◌, ◌||◌, List, Option, nat_eq}
+use Rattle.std.specs.Prelude.{ℕ, Bool, true, false, not, ◌&&◌, ◌||◌, List, Option, None, nat_eq}
 use Rattle.std.specs.List.{list_any, list_all, starts_with}
 use Rattle.std.specs.Str.{bytes_eq}
 use Rattle.office_records.specs.Lists.{is_some_and}
 use Rattle.office_access.specs.Kinds.{same_power}
+use Rattle.office_access.specs.declared.kind.Kind.TheVariants as kind
 use Rattle.office_access.specs.declared.power.Power.{Power}
 use Rattle.office_access.specs.declared.power.Power.TheVariants as power
 use Rattle.office_access.specs.declared.reading.Reading.{Reading}
@@ -43,3 +44,7 @@ may_at_all grants power = list_any (λ right. same_power right.power power) gran
 -- one of the rights allows to read that of a thing of that class, which was sent or was not
 abbrev pub may_read : Grants → Reading → Option (List ℕ) → Bool → Bool
 may_read grants reading class is_sent = list_any (is_right (power.Read reading) class is_sent) grants.rights.items
+
+-- the rights allow to carry out a run, step by step or to its end
+abbrev pub may_carry_out : Grants → Bool
+may_carry_out grants = may_in grants (power.Act kind.RunStep) None || may_in grants power.Resume None

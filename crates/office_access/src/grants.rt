@@ -1,9 +1,9 @@
 //! The rights of a name.
-ghost use Rattle.std.specs.Prelude.{◌≡◌, false};
+ghost use Rattle.std.specs.Prelude.{◌≡◌, false, None};
 ghost use Rattle.std.specs.Option.{option_copied};
-ghost use Rattle.office_access.specs.Rights.{may_at_all, may_in, may_read};
+ghost use Rattle.office_access.specs.Rights.{may_at_all, may_carry_out, may_in, may_read};
 
-use crate::{Power, Reading, Right};
+use crate::{Kind, Power, Reading, Right};
 use office_records::{Code, Text};
 
 /// The rights of a name, and the roles that give these rights. The roles decide nothing.
@@ -39,5 +39,12 @@ impl Grants {
         self.rights
             .iter()
             .any(|right| right.is_to(Power::Read(reading), class, is_sent))
+    }
+
+    /// Reports whether a right allows to carry out a run, step by step or to its end.
+    pub fn may_carry_out(&self) -> bool
+        ensures { result ≡ may_carry_out self.now }
+    {
+        self.may_in(Power::Act(Kind::RunStep), None) || self.may_in(Power::Resume, None)
     }
 }

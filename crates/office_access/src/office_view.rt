@@ -1,11 +1,12 @@
 //! The office as a policy reads it.
-ghost use Rattle.std.specs.Prelude.{◌≡◌};
+ghost use Rattle.std.specs.Prelude.{◌≡◌, length};
 ghost use Rattle.std.specs.FinMap.{get};
 ghost use Rattle.std.specs.Option.{option_copied};
 ghost use Rattle.office_rules.specs.State.{Office};
-ghost use Rattle.office_access.specs.Eyes.{opener_of, sender_of};
+ghost use Rattle.office_access.specs.Eyes.{opener_of, run_opener};
 
-use office_records::{Event, RecordNo, Text};
+use office_records::{RecordNo, Text};
+use office_rules::{Entry, RunNo};
 use office_tree::Tree;
 
 /// What a policy reads of the office in which an act is then done.
@@ -16,15 +17,19 @@ pub trait OfficeView {
     fn tree(&self) -> &Tree
         ensures { result.now ≡ (office self.now).tree };
 
-    /// Who opened the run that is open.
+    /// Who opened the run that is open; `None` if none is open.
     fn opener(&self) -> Option<&Text>
         ensures { option_copied result ≡ opener_of (office self.now) };
 
-    /// Who opened the run that sent the record.
-    fn sender(&self, record_no: RecordNo) -> Option<&Text>
-        ensures { option_copied result ≡ sender_of (office self.now) record_no };
+    /// The number of runs, which is that of the last one.
+    fn run_count(&self) -> RunNo
+        ensures { result ≡ length (office self.now).runs };
 
-    /// The event of the record.
-    fn event(&self, record_no: RecordNo) -> Option<&Event>
-        ensures { option_copied result ≡ get (office self.now).tree.events record_no };
+    /// Who opened the run of that number; `None` if there is no such run.
+    fn run_opener(&self, run: RunNo) -> Option<&Text>
+        ensures { option_copied result ≡ run_opener (office self.now) run };
+
+    /// The entry of that run about the record; `None` if there is none.
+    fn entry(&self, run: RunNo, record_no: RecordNo) -> Option<&Entry>
+        ensures { option_copied result ≡ get (office self.now).entries (run, record_no) };
 }

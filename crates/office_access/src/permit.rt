@@ -1,135 +1,125 @@
 //! Whether an act is permitted to a name.
-ghost use Rattle.std.specs.Prelude.{◌≡◌, ◌&&◌, if◌then◌else◌};
+ghost use Rattle.std.specs.Prelude.{◌≡◌, if◌then◌else◌};
 ghost use Rattle.std.specs.Option.{option_copied};
-ghost use Rattle.office_records.specs.Lists.{is_some_and};
-ghost use Rattle.std.specs.Str.{bytes_eq};
-ghost use Rattle.office_access.specs.Kinds.{same_kind};
-ghost use Rattle.office_access.specs.Permits.{denial_at, denials_to, first_denial, has_confirmed, has_confirmed_any, is_confirmed_by_opener, is_step_of_opener};
+ghost use Rattle.office_access.specs.Permits.{denial_of, file_denial_of, first_denial, is_timely, reading_denial_of, resumption_denial_of, right_denials};
 
-use crate::act_kind::{is_signed, kind_of};
-use crate::{Denial, Kind, Person, Policy};
-use office_records::{RecordNo, Status, Text};
+use crate::act_kind::{day_of, is_signed, kind_of};
+use crate::eyes::is_opener;
+use crate::{Denial, Grants, OfficeView, Policy, Power, Reading, Rule, SignIn};
+use office_days::Day;
+use office_records::{Code, Text};
 use office_rules::Act;
-use office_tree::Tree;
 
-/// Whether the open run, if there is one, was opened by this one.
-fn is_opener(opener: Option<&Text>, signs: &Text) -> bool
-    ensures { result ≡ is_some_and (option_copied opener.entry) (bytes_eq signs.now) }
-{
-    match opener {
-        Some(opener) => *signs == *opener,
-        None => false,
-    }
-}
-
-/// Whether the record is there and not ended, and this one confirmed it last.
-fn has_confirmed(tree: &Tree, signs: &Text, record_no: RecordNo) -> bool
-    ensures { result ≡ has_confirmed tree.now signs.now record_no }
-{
-    if !tree.has_record(record_no) {
-        return false;
-    }
-    if matches!(tree.status(record_no), Status::Ended) {
-        return false;
-    }
-    match &tree.record(record_no).confirmation {
-        Some(it) => it.by == *signs,
-        None => false,
-    }
-}
-
-/// Whether a record is not ended that this one confirmed last.
-fn has_confirmed_any(tree: &Tree, signs: &Text) -> bool
-    ensures { result ≡ has_confirmed_any tree.now signs.now }
-{
-    for before in 0..tree.record_count() {
-        if has_confirmed(tree, signs, before + 1) {
-            return true;
+impl Grants {
+    /// Reports whether the day, if there is one, is not after today, or a later day is allowed.
+    fn is_timely(&self, today: Day, day: Option<Day>) -> bool
+        ensures { result ≡ is_timely today self.now day }
+    {
+        match day {
+            Some(day) => day.number() <= today.number() || self.may_in(Power::LaterDay, None),
+            None => true,
         }
     }
-    false
+
+    /// Finds why the rights do not allow the act, if they do not: of several reasons the first.
+    fn deny<V: OfficeView>(&self, office: &V, today: Day, signs: &Text, act: &Act) -> Option<Denial>
+        ensures { result
+            ≡ first_denial (right_denials (V.office office.now) today signs.now self.now act.now) }
+    {
+        let power = Power::Act(kind_of(act));
+        if !self.may_at_all(power) {
+            return Some(Denial::Right);
+        }
+        if !is_signed(act, signs) {
+            return Some(Denial::By);
+        }
+        if !self.is_timely(today, day_of(act)) {
+            return Some(Denial::Future);
+        }
+        if !self.may_in_all(office.tree(), power, act) {
+            return Some(Denial::Class);
+        }
+        None
+    }
 }
 
 impl Policy {
-    /// Whether whoever opened the open run would take a step of it.
-    fn is_step_of_opener(&self, opener: Option<&Text>, signs: &Text, kind: Kind) -> bool
-        ensures { result
-            ≡ (self.now.opener_takes_no_step && same_kind kind Kind.RunStep
-            && is_some_and (option_copied opener.entry) (bytes_eq signs.now)) }
-    {
-        self.opener_takes_no_step && kind.is(Kind::RunStep) && is_opener(opener, signs)
-    }
-
-    /// Whether whoever confirmed a record would open a run, or whoever has one open would confirm.
-    fn is_confirmed_by_opener(
+    /// Finds why the act is denied to the name on that day, if it is: of several reasons the first.
+    /// Takes no memory.
+    pub fn permit<V: OfficeView>(
         &self,
-        tree: &Tree,
-        opener: Option<&Text>,
-        signs: &Text,
-        kind: Kind,
-    ) -> bool
-        ensures { result
-            ≡ (self.now.confirmer_opens_no_run
-            && (if same_kind kind Kind.OpenRun then has_confirmed_any tree.now signs.now
-            else same_kind kind Kind.Confirm
-            && is_some_and (option_copied opener.entry) (bytes_eq signs.now))) }
-    {
-        if !self.confirmer_opens_no_run {
-            return false;
-        }
-        if kind.is(Kind::OpenRun) {
-            has_confirmed_any(tree, signs)
-        } else {
-            kind.is(Kind::Confirm) && is_opener(opener, signs)
-        }
-    }
-
-    /// Why the act is denied to the person, if it is: of several reasons the first.
-    fn permit_person(
-        &self,
-        tree: &Tree,
-        opener: Option<&Text>,
-        person: &Person,
+        office: &V,
+        today: Day,
+        name: &SignIn,
         act: &Act,
     ) -> Option<Denial>
-        ensures { result
-            ≡ first_denial (denials_to self.now tree.now (option_copied opener.entry) person.now
-            act.now) }
+        ensures { result ≡ denial_of self.now (V.office office.now) today name.now act.now }
     {
-        let kind = kind_of(act);
-        if !person.may_at_all(kind) {
+        let grants = match self.grants(name) {
+            Some(grants) => grants,
+            None => return Some(Denial::Name),
+        };
+        let signs = self.signature(name);
+        match grants.deny(office, today, signs, act) {
+            Some(denial) => Some(denial),
+            None => self.rules().deny_by_rule(office, signs, grants, act),
+        }
+    }
+
+    /// Finds why it is denied to the name to carry out the open run to its end, if it is.
+    pub fn permit_resumption<V: OfficeView>(&self, office: &V, name: &SignIn) -> Option<Denial>
+        ensures { result ≡ resumption_denial_of self.now (V.office office.now) name.now }
+    {
+        let Some(grants) = self.grants(name) else {
+            return Some(Denial::Name);
+        };
+        if !grants.may_in(Power::Resume, None) {
             return Some(Denial::Right);
         }
-        if !is_signed(act, &person.signs) {
-            return Some(Denial::By);
-        }
-        if !person.may_in_all(tree, kind, act) {
-            return Some(Denial::Class);
-        }
-        if self.is_step_of_opener(opener, &person.signs, kind) {
-            return Some(Denial::Opener);
-        }
-        if self.is_confirmed_by_opener(tree, opener, &person.signs, kind) {
-            return Some(Denial::Confirmer);
+        if self.rules().opener_does_not_carry_out && is_opener(office, self.signature(name)) {
+            return Some(Denial::Eyes(Rule::OpenerDoesNotCarryOut));
         }
         None
     }
 
-    /// Why the act is denied to the name, if it is: of several reasons the first. `opener` is who
-    /// opened the run that is open. It takes no memory.
-    pub fn permit(
+    /// Finds why it is denied to the name to put a file into the vault, if it is.
+    pub fn permit_file(&self, name: &SignIn) -> Option<Denial>
+        ensures { result ≡ file_denial_of self.now name.now }
+    {
+        match self.grants(name) {
+            None => Some(Denial::Name),
+            Some(grants) => {
+                if grants.may_at_all(Power::Vault) {
+                    None
+                } else {
+                    Some(Denial::Right)
+                }
+            }
+        }
+    }
+
+    /// Finds why it is denied to the name to read that of a thing of that class, if it is. `None` is
+    /// what lies in no class. `is_sent` says whether a run sent the thing to an archive and none
+    /// ended it.
+    pub fn permit_reading(
         &self,
-        tree: &Tree,
-        opener: Option<&Text>,
-        name: &Text,
-        act: &Act,
+        name: &SignIn,
+        reading: Reading,
+        class: Option<&Code>,
+        is_sent: bool,
     ) -> Option<Denial>
         ensures { result
-            ≡ denial_at self.now tree.now (option_copied opener.entry) name.now act.now }
+            ≡ reading_denial_of self.now name.now reading (option_copied class.entry) is_sent }
     {
-        match self.person(name) {
-            Some(person) => self.permit_person(tree, opener, person, act),
-            None => Some(Denial::Name),
+        let Some(grants) = self.grants(name) else {
+            return Some(Denial::Name);
+        };
+        if !grants.may_at_all(Power::Read(reading)) {
+            return Some(Denial::Right);
         }
+        if !grants.may_read(reading, class, is_sent) {
+            return Some(Denial::Class);
+        }
+        None
     }
 }

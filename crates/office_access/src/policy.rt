@@ -1,8 +1,9 @@
 //! The settings of an office: names, rights and rules.
 ghost use Rattle.std.specs.Prelude.{◌≡◌, true, Some, None, if◌then◌else◌};
-ghost use Rattle.std.specs.List.{list_all};
+ghost use Rattle.std.specs.List.{list_all, list_any};
+ghost use Rattle.std.specs.Str.{bytes_eq};
 ghost use Rattle.std.specs.Option.{option_copied};
-ghost use Rattle.office_access.specs.Settings.{are_apart, grants_of, is_apart, is_taken, person_named, signs};
+ghost use Rattle.office_access.specs.Settings.{are_apart, goes_by, grants_of, is_apart, is_taken, person_named, signs};
 
 use crate::{Grants, Person, Rules, SignIn};
 use office_records::Text;
@@ -38,9 +39,7 @@ impl Model for Policy {
 fn is_apart_from_all(person: &Person, others: &[Person]) -> bool
     ensures { result ≡ list_all (is_apart person.now) others.now }
 {
-    others
-        .iter()
-        .all(|other| !other.goes_by(&person.name) && !other.goes_by(&person.signs))
+    others.iter().all(|other| !other.goes_by(&person.name) && !other.goes_by(&person.signs))
 }
 
 /// Reports whether names differ, signatures differ, and no name is the signature of another.
@@ -53,6 +52,20 @@ pub fn are_apart(people: &[Person]) -> bool
         }
     }
     true
+}
+
+/// Reports whether the text is the name or the signature of one of the persons.
+fn is_known(people: &[Person], text: &Text) -> bool
+    ensures { result ≡ list_any (goes_by text.now) people.now }
+{
+    people.iter().any(|person| person.goes_by(text))
+}
+
+/// Reports whether one of the names and signatures has that look.
+fn is_look_taken(taken: &[Text], look: &Text) -> bool
+    ensures { result ≡ list_any (bytes_eq look.now) taken.now }
+{
+    taken.iter().any(|other| *look == *other)
 }
 
 impl Policy {
@@ -81,6 +94,13 @@ impl Policy {
         })
     }
 
+    /// The rules of four eyes.
+    pub fn rules(&self) -> &Rules
+        ensures { result.now ≡ self.now.rules }
+    {
+        &self.rules
+    }
+
     /// Finds the person of the settings with that name.
     pub fn person(&self, name: &Text) -> Option<&Person>
         ensures { option_copied result ≡ person_named self.now name.now }
@@ -92,8 +112,7 @@ impl Policy {
     fn is_taken(&self, name: &SignIn) -> bool
         ensures { result ≡ is_taken self.now name.now }
     {
-        self.people.iter().any(|person| person.goes_by(&name.name))
-            || self.taken.iter().any(|look| name.look == *look)
+        is_known(&self.people, &name.name) || is_look_taken(&self.taken, &name.look)
     }
 
     /// Finds the rights of a name: its own, or those of every other name.

@@ -5,7 +5,7 @@ ghost use Rattle.office_access.specs.Kinds.{power_number, same_power};
 use crate::{Kind, Reading};
 
 /// What a right allows: an act of a kind, or something beside the acts.
-#[derive(Clone, Copy, PartialEq, Eq, Debug)]
+#[derive(Clone, Copy)]
 pub enum Power {
     /// An act of that kind.
     Act(Kind),

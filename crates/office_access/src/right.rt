@@ -1,6 +1,6 @@
 //! One right.
-ghost use Rattle.std.specs.Prelude.{◌≡◌};
-ghost use Rattle.std.specs.List.{list_any};
+ghost use Rattle.std.specs.Prelude.{◌≡◌, ◌||◌, not};
+ghost use Rattle.std.specs.List.{list_all, list_any};
 ghost use Rattle.std.specs.Option.{option_copied};
 ghost use Rattle.office_access.specs.Rights.{covers, fits, is_in, is_right};
 
@@ -43,11 +43,25 @@ impl ClassList {
 }
 
 impl Right {
-    /// Reports whether each limit of the right allows a thing of that class, sent or not.
+    /// Reports whether the right covers what was sent, or what was not.
+    fn is_for(&self, is_sent: bool) -> bool
+        ensures { result ≡ (is_sent || not self.now.is_for_sent) }
+    {
+        is_sent || !self.is_for_sent
+    }
+
+    /// Reports whether each limit of the right names the class.
+    fn is_limited_to(&self, class: Option<&Code>) -> bool
+        ensures { result ≡ list_all (is_in (option_copied class.entry)) self.now.limits.items }
+    {
+        self.limits.iter().all(|limit| limit.is_in(class))
+    }
+
+    /// Reports whether the right covers a thing of that class, sent or not.
     fn covers(&self, class: Option<&Code>, is_sent: bool) -> bool
         ensures { result ≡ covers (option_copied class.entry) is_sent self.now }
     {
-        (is_sent || !self.is_for_sent) && self.limits.iter().all(|limit| limit.is_in(class))
+        self.is_for(is_sent) && self.is_limited_to(class)
     }
 
     /// Reports whether the right allows that for a thing of that class, sent or not.

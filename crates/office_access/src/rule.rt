@@ -1,7 +1,7 @@
 //! The rules of four eyes.
 
 /// The rules of four eyes that the office itself can decide, each of them on or off.
-#[derive(Clone, Copy, Debug)]
+#[derive(Clone, Copy)]
 pub struct Rules {
     /// Whoever opened a run does not carry it out.
     pub opener_does_not_carry_out: bool,
