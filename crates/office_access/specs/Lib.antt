@@ -1,3 +1,4 @@
+pub mod Alone
 pub mod Deeds
 pub mod Eyes
 pub mod Kinds

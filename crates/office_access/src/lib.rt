@@ -7,6 +7,7 @@
 #![tactic(auto)]
 
 mod act_kind;
+mod alone;
 mod class_pattern;
 mod denial;
 mod eyes;
