@@ -7,3 +7,4 @@ pub mod Rights
 pub mod Settings
 pub mod Signing
 pub mod Subjects
+pub mod TwoPeople
