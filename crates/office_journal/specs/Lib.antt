@@ -1,0 +1,4 @@
+pub mod Chain
+pub mod Journals
+pub mod Lines
+pub mod Reasons
