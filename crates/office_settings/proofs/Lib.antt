@@ -1,0 +1,4 @@
+pub mod Cut
+pub mod Digits
+pub mod Remarks
+pub mod Marks

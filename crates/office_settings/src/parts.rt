@@ -1,0 +1,59 @@
+//! Words before a mark, and words after it.
+ghost use Rattle.std.specs.Prelude.{◌≡◌, map, position};
+ghost use Rattle.std.specs.Str.{bytes_eq};
+ghost use Rattle.office_settings.specs.Statements.{is_condition, parted};
+ghost use Rattle.office_settings.specs.Views.{parts_read};
+
+use crate::Wrong;
+use crate::words::is;
+
+/// The words before a mark and those after it.
+#[derive(Clone, Copy)]
+pub(crate) struct Parts<'a> {
+    pub(crate) before: &'a [&'a [u8]],
+    pub(crate) after: &'a [&'a [u8]],
+}
+
+/// Returns the place of the first word that is the mark.
+fn mark_place(mark: &str, words: &[&[u8]]) -> Option<usize>
+    ensures { result ≡ position (λ word. bytes_eq word.now mark.now) words.now }
+{
+    words.iter().position(|word| is(word, mark))
+}
+
+/// Parts words at a mark, behind which at least one word follows. Without the mark all words come
+/// before it.
+#[tactic(auto, unfolding(crate::specs::Statements::parted))]
+pub(crate) fn parted<'a>(mark: &str, words: &'a [&'a [u8]]) -> Result<Parts<'a>, Wrong>
+    ensures { parts_read result ≡ parted mark.now (map (λ w. w.now) words.now) }
+{
+    match mark_place(mark, words) {
+        None => Ok(Parts {
+            before: words,
+            after: &[],
+        }),
+        Some(place) => {
+            if place + 1 < words.len() {
+                let (_, after) = words.split_at(place + 1);
+                Ok(Parts {
+                    before: &words[..place],
+                    after,
+                })
+            } else {
+                Err(Wrong::NothingFollows)
+            }
+        }
+    }
+}
+
+/// Whether the words after `if` are `sent` alone, or there are none.
+#[tactic(auto, unfolding(crate::specs::Statements::is_condition))]
+pub(crate) fn is_condition(words: &[&[u8]]) -> bool
+    ensures { result ≡ is_condition (map (λ w. w.now) words.now) }
+{
+    match words {
+        [] => true,
+        [word] => is(word, "sent"),
+        [_, _, ..] => false,
+    }
+}

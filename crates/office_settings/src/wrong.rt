@@ -1,0 +1,75 @@
+//! Why a line of the settings is no statement.
+ghost use Rattle.std.specs.Prelude.{◌≡◌};
+ghost use Rattle.office_settings.specs.Reasons.{reason};
+
+/// Why words are no statement.
+#[derive(Clone, Copy, PartialEq, Eq, Debug)]
+pub enum Wrong {
+    /// No statement begins with the first word.
+    Beginning,
+    /// A line `role` is neither of its two forms.
+    RoleLine,
+    /// The name of a role is not of its form.
+    Role,
+    /// Something other than `sent` follows `if`.
+    Condition,
+    /// Nothing follows `in` or `if`.
+    NothingFollows,
+    /// `if sent` stands behind acts.
+    SentActs,
+    /// A word is no kind of act, or there is none.
+    Act,
+    /// A word is no thing to read, or there is none.
+    Thing,
+    /// A word is no code of a class, with a star at its end or without.
+    Class,
+    /// A line `name` is neither of its two forms.
+    NameLine,
+    /// A name is not of its form.
+    Name,
+    /// A line `rule` is none of the rules.
+    Rule,
+    /// There is no number, or it is too small or too great.
+    Number,
+    /// A line `limit` is none of its forms.
+    Limit,
+    /// A line `keep` is none of its forms.
+    Keep,
+    /// A line `journal` is neither of its two forms.
+    Journal,
+    /// The site is no address of its form.
+    Site,
+    /// The time zone has not the form of one.
+    Zone,
+}
+
+impl Wrong {
+    /// Returns the reason in words.
+    pub fn text(self) -> &'static str
+        ensures { result.now ≡ reason self }
+    {
+        match self {
+            Wrong::Beginning => "no line begins with this word",
+            Wrong::RoleLine =>
+                "write: role ROLE may ACT.. [in CLASS..], or role ROLE reads THING.. [in CLASS..] [if sent]",
+            Wrong::Role => "a role has 1 to 32 small letters, digits and hyphens",
+            Wrong::Condition => "after 'if' only 'sent' is known",
+            Wrong::NothingFollows => "nothing follows 'in' or 'if'",
+            Wrong::SentActs => "'if sent' is for what is read",
+            Wrong::Act => "there is no such kind of act",
+            Wrong::Thing => "there is no such thing to read",
+            Wrong::Class =>
+                "a class has letters, digits and hyphens, and a star at its end for all that begin so",
+            Wrong::NameLine => "write: name NAME is ROLE.. [in CLASS..], or name NAME signs TEXT",
+            Wrong::Name => "a name has letters, digits and . _ @ -, or it is * for all other names",
+            Wrong::Rule => "there is no such rule",
+            Wrong::Number => "there is no number, or it is too small or too great",
+            Wrong::Limit => "write: limit requests N, limit lists N, or limit journal-bytes N",
+            Wrong::Keep => "write: keep contents DAYS, or keep free MEGABYTES",
+            Wrong::Journal => "write: journal readings, or journal acts",
+            Wrong::Site =>
+                "a site is an address such as https://records.city.example, without a path",
+            Wrong::Zone => "a time zone is a word such as Europe/Berlin",
+        }
+    }
+}
