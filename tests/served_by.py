@@ -8,9 +8,9 @@ import subprocess
 import time
 
 from service_place import OFFICE, SECONDS, SERVICE
-from shared.offices import start
-from shared.ports import free_port
-from shared.waiting import comes
+from kit.offices import start
+from kit.ports import free_port
+from kit.waiting import comes
 
 
 def answer_of(port: int, request: bytes, pause: float = 0, half: bool = False) -> bytes:

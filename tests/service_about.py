@@ -6,7 +6,7 @@ import pathlib
 import sys
 
 from service_place import FIRST, LAST, NOBODY, OFFICE, SERVICE, apply, made, run, script
-from shared.judging import judge
+from kit.judging import judge
 
 sys.path.insert(0, str(SERVICE / "gate"))
 from office_gate.chain import START, linked  # noqa: E402

@@ -10,8 +10,8 @@ import time
 
 from service_place import (FIRST, LAST, NOBODY, OFFICE, RECORDS, SERVICE, Served, apply, made, path_with, run,
                            run_acts, script)
-from shared.judging import judge
-from shared.waiting import comes
+from kit.judging import judge
+from kit.waiting import comes
 
 # the columns of the details, in their order
 DETAILS = ("originated", "added", "class", "schedule", "length", "due", "held")

@@ -9,8 +9,8 @@ import time
 
 from service_place import (NOBODY, OFFICE, SECONDS, SERVICE, Served, counted, made, mode_of, path_with, run, script,
                            text_of)
-from shared.judging import judge
-from shared.waiting import comes, next_second
+from kit.judging import judge
+from kit.waiting import comes, next_second
 
 
 def ends(folder: pathlib.Path) -> None:

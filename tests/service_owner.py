@@ -10,7 +10,7 @@ import pathlib
 import shutil
 
 from service_place import NOBODY, OFFICE, SERVICE, made, run, script
-from shared.judging import judge
+from kit.judging import judge
 
 VICTIM = b"root's own\n"
 AS_OWNER = f"setpriv --reuid={NOBODY} --regid={NOBODY} --clear-groups"

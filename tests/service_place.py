@@ -7,9 +7,9 @@ import pathlib
 import re
 import subprocess
 
-from shared.commands import OFFICE, SECONDS, TOP
-from shared.offices import Office
-from shared.waiting import comes
+from kit.commands import OFFICE, SECONDS, TOP
+from kit.offices import Office
+from kit.waiting import comes
 
 HERE = TOP / "tests"
 SERVICE = TOP / "service"

@@ -7,7 +7,7 @@ import shutil
 
 from service_place import (LAST, NOBODY, OFFICE, RECORDS, Served, apply, made, mode_of, path_with, run, run_acts,
                            script)
-from shared.judging import judge, same
+from kit.judging import judge, same
 
 
 def overdue(folder: pathlib.Path) -> None:

@@ -10,7 +10,7 @@ import signal
 
 from service_place import (FIRST, LAST, NOBODY, OFFICE, RECORDS, Served, apply, counted, first_acts, made, path_with,
                            run, run_acts, script, sum_of)
-from shared.judging import judge
+from kit.judging import judge
 
 HOLDS = [{"act": "place-hold", "code": "H-1", "reason": "A lawsuit", "by": "Legal office"},
          {"act": "hold-on", "hold": "H-1", "target": f"record:{2 * RECORDS}"},

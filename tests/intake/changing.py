@@ -6,7 +6,7 @@ import pathlib
 import time
 from collections.abc import Callable
 
-from shared.waiting import comes
+from kit.waiting import comes
 
 
 def written(folder: pathlib.Path, take: Callable[..., tuple[int, str, str]], records: Callable[[], list[dict]],

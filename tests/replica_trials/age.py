@@ -12,7 +12,7 @@ from replica_trials.cluster import FAULTS, Cluster, Reply, ask
 from replica_trials.judging import judge
 from replica_trials.posting import begun, get, post, posted, record
 from replica_trials.verdict import same_rows
-from shared.waiting import comes
+from kit.waiting import comes
 
 LIMIT = 30
 """the usual value of `age_limit` and of `reading_limit`"""

@@ -15,7 +15,7 @@ from replica_trials.cluster import OFFICE, REPLICAS, Cluster, ask
 from replica_trials.judging import judge
 from replica_trials.posting import begun, get, halts, post, posted, record
 from replica_trials.verdict import same_rows
-from shared.waiting import comes
+from kit.waiting import comes
 
 SLOW_SECONDS = 20
 

@@ -12,7 +12,7 @@ from replica_trials.cluster import REPLICAS, Cluster
 from replica_trials.judging import judge
 from replica_trials.posting import begun, posted, record
 from replica_trials.verdict import same_rows
-from shared.waiting import comes
+from kit.waiting import comes
 
 IDLE_SECONDS = 4
 """a member settles after one without entries"""

@@ -9,7 +9,7 @@ from collections.abc import Callable
 import csip
 import reader
 from fake import Fake, digest
-from shared.judging import judge
+from kit.judging import judge
 from place import TOOLS, Done, challenge_of, files_in, run
 
 LONG = "ü" * 100

@@ -6,7 +6,7 @@ import shutil
 
 import authority
 from fake import Fake, digest
-from shared.judging import judge
+from kit.judging import judge
 from place import run
 from sealing import SEAL, Place, seals_of
 

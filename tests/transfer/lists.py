@@ -6,7 +6,7 @@ from collections.abc import Callable
 
 from bags import transfer
 from fake import Fake, digest
-from shared.judging import judge
+from kit.judging import judge
 from place import TOOLS, Done, challenge_of, run
 
 BIG, SCAN = b"big", b"scan"

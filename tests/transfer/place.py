@@ -2,7 +2,7 @@
 import pathlib
 import re
 
-from shared.commands import OFFICE, TOP, Done, run
+from kit.commands import OFFICE, TOP, Done, run
 
 HERE = pathlib.Path(__file__).resolve().parent
 TOOLS, SERVICE = TOP / "tools", TOP / "service"

@@ -9,8 +9,8 @@ from collections.abc import Callable
 
 import authority
 from fake import Fake, certificate, digest
-from shared.judging import judge
-from shared.waiting import next_second
+from kit.judging import judge
+from kit.waiting import next_second
 from place import SERVICE, TOOLS, Done, run
 
 SEAL, VERIFY = SERVICE / "office-seal", TOOLS / "verify"

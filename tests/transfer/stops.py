@@ -7,7 +7,7 @@ import time
 
 import reader
 from fake import Fake
-from shared.judging import judge
+from kit.judging import judge
 from place import TOOLS, files_in, run
 
 KILLS = 40

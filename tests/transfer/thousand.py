@@ -14,8 +14,8 @@ import csip
 import reader
 from bags import ODD, rows, sums_agree
 from fake import digest
-from shared.judging import judge
-from shared.offices import Office
+from kit.judging import judge
+from kit.offices import Office
 from place import OFFICE, SERVICE, TOOLS, TOP, challenge_of, files_in, run
 
 COUNT = 1000

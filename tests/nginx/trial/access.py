@@ -6,7 +6,7 @@ import ssl
 import threading
 import time
 
-from shared.judging import judge, same
+from kit.judging import judge, same
 from trial import place
 from trial.place import HERE, ask, post, reach, run
 

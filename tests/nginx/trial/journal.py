@@ -6,8 +6,8 @@ import pathlib
 import stat
 import time
 
-from shared.judging import judge, same
-from shared.waiting import comes
+from kit.judging import judge, same
+from kit.waiting import comes
 from trial import place
 from trial.judging import absent
 from trial.place import HERE, JOURNAL, ask, post, run

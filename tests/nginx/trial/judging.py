@@ -1,7 +1,7 @@
 """Judgements of texts."""
 from collections.abc import Iterable
 
-from shared.judging import judge
+from kit.judging import judge
 
 
 def absent(name: str, text: str, parts: Iterable[str]) -> None:

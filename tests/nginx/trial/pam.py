@@ -2,7 +2,7 @@
 import pathlib
 import shutil
 
-from shared.judging import judge, same
+from kit.judging import judge, same
 from trial import place
 from trial.place import NAMES, PASSWORD, ask, post, run
 

@@ -1,5 +1,5 @@
 """Which paths come to an office, and what a monitor reads."""
-from shared.judging import same
+from kit.judging import same
 from trial import place
 from trial.access import error
 from trial.place import ask, post

@@ -13,8 +13,8 @@ import threading
 import time
 from typing import NamedTuple
 
-from shared.judging import judge
-from shared.waiting import comes
+from kit.judging import judge
+from kit.waiting import comes
 
 TOP = pathlib.Path(__file__).resolve().parent.parent.parent.parent
 OFFICE = pathlib.Path(os.environ.get("OFFICE", TOP / "crates/office/out/office")).resolve()

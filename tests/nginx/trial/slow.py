@@ -6,8 +6,8 @@ import ssl
 import subprocess
 import time
 
-from shared.judging import judge, same
-from shared.waiting import comes
+from kit.judging import judge, same
+from kit.waiting import comes
 from trial import place
 from trial.place import ask, connected, context, run
 

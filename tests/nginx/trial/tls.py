@@ -2,7 +2,7 @@
 import shutil
 import time
 
-from shared.judging import judge
+from kit.judging import judge
 from trial.place import run
 
 AT = "/etc/nginx/office/office"

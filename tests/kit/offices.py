@@ -10,8 +10,8 @@ import tempfile
 from collections.abc import Callable, Mapping, Sequence
 from typing import IO, Any, NamedTuple, Self
 
-from shared.commands import OFFICE, Done, run
-from shared.ports import free_port
+from kit.commands import OFFICE, Done, run
+from kit.ports import free_port
 
 TRIES = 20
 SECONDS = 600

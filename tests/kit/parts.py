@@ -9,7 +9,7 @@ import time
 from collections.abc import Callable, Sequence
 from typing import NoReturn
 
-from shared.judging import Stopped, ended, goes_on, judge
+from kit.judging import Stopped, ended, goes_on, judge
 
 Part = Callable[[pathlib.Path], object]
 

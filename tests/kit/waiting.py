@@ -4,7 +4,7 @@ from __future__ import annotations
 import time
 from collections.abc import Callable
 
-from shared.commands import SECONDS
+from kit.commands import SECONDS
 
 STEP = 0.02
 

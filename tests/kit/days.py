@@ -6,7 +6,7 @@ import pathlib
 import time
 from collections.abc import Callable
 
-from shared.judging import FAILED, PASSED, goes_on
+from kit.judging import FAILED, PASSED, goes_on
 
 TRIES = 3
 
