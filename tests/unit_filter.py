@@ -4,8 +4,8 @@
     tests/unit_filter.py UNIT COMMAND ..
 
 It reads SystemCallFilter= (one list of sets that are allowed, and lists with `~` that are taken from it) and
-SystemCallErrorNumber= of the unit, asks systemd-analyze for the members of each set, and loads the filter by
-libseccomp. Every other line of the unit is left out. It also sets NoNewPrivileges, as the units do.
+SystemCallErrorNumber= of the unit and its drop-ins, asks systemd-analyze for the members of each set, and loads the
+filter by libseccomp. Every other line of the unit is left out. It also sets NoNewPrivileges, as the units do.
 """
 import ctypes
 import errno
@@ -14,6 +14,10 @@ import pathlib
 import re
 import subprocess
 import sys
+
+sys.dont_write_bytecode = True
+
+from kit.units import text_of  # noqa: E402
 
 KILL, ALLOW, ERRNO, NO_NEW_PRIVS = 0x80000000, 0x7FFF0000, 0x00050000, 38
 
@@ -40,8 +44,8 @@ def allowed(unit: str) -> tuple[set[str], int]:
             calls -= members(line[1:].split())
         else:
             calls |= members(line.split())
-    number = re.search(r"^SystemCallErrorNumber=(\w+)$", unit, re.M)
-    return calls, ERRNO | getattr(errno, number[1]) if number else KILL
+    name = re.findall(r"^SystemCallErrorNumber=(\w+)$", unit, re.M)[-1:]
+    return calls, KILL if name in ([], ["kill"]) else ERRNO | getattr(errno, name[0])
 
 
 def load(calls: set[str], otherwise: int) -> None:
@@ -57,5 +61,5 @@ def load(calls: set[str], otherwise: int) -> None:
 
 
 if __name__ == "__main__":
-    load(*allowed(pathlib.Path(sys.argv[1]).read_text()))
+    load(*allowed(text_of(pathlib.Path(sys.argv[1]))))
     os.execvp(sys.argv[2], sys.argv[2:])

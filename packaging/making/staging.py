@@ -40,7 +40,7 @@ def listed(of: str = "files") -> list[Listed]:
 
 def units(of: str = "files") -> list[str]:
     """What systemd may have running of the package's units, as patterns."""
-    names = [it.source.name for it in listed(of) if it.folder == UNITS]
+    names = [it.source.name for it in listed(of) if it.folder == UNITS and not it.source.is_dir()]
     return sorted(it.replace("@.", "@*.") for it in names)
 
 
@@ -52,7 +52,8 @@ def is_left_out(name: pathlib.Path) -> bool:
 def files_below(source: pathlib.Path) -> list[pathlib.Path]:
     if source.is_file():
         return [source]
-    return sorted(it for it in source.rglob("*") if it.is_file() and not is_left_out(it.relative_to(source)))
+    files = [it for it in source.rglob("*") if it.is_file() or it.is_symlink()]
+    return sorted(it for it in files if not is_left_out(it.relative_to(source)))
 
 
 def put(text: str | bytes, to: pathlib.Path, mode: int = 0o644) -> None:
@@ -66,8 +67,18 @@ def put_packed(text: str, to: pathlib.Path) -> None:
     put(gzip.compress(text.encode(), 9, mtime=0), to)
 
 
+def put_link(source: pathlib.Path, to: pathlib.Path) -> None:
+    """A link of the list, which names a file beside it or nothing."""
+    to.parent.mkdir(parents=True, exist_ok=True)
+    to.unlink(missing_ok=True)
+    to.symlink_to(os.readlink(source))
+
+
 def put_file(source: pathlib.Path, to: pathlib.Path) -> None:
     """A file of the list, with the places of the package."""
+    if source.is_symlink():
+        put_link(source, to)
+        return
     data = source.read_bytes()
     if source.name.endswith(MACHINE):
         text = data.decode()

@@ -29,6 +29,7 @@ ROWS = [
     Row("adduser"),
     Row("cp -r service/office_seal"),
     Row("install -m 755 service/office-seal", prints=""),
+    Row("cp -r service/office-.service.d"),
     Row("cp service/office-certificates@.service"),
     Row("cp service/office-seal@.service", then=units_are_taken),
     Row("ssh-keygen -q"),

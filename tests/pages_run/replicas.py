@@ -268,6 +268,7 @@ ROWS = [
     Row("adduser"),
     Row("mkdir -p /etc/office/etcd"),
     Row("cp -r replicas/member"),
+    Row("cp -r service/office-.service.d"),
     Row("cp service/replicas/office-etcd.service"),
     Row("cp service/replicas/office-etcd-defrag.service"),
     Row("cp service/replicas/etcd.conf"),

@@ -74,6 +74,7 @@ ROWS = [
     Row("adduser office-vault office-read"),
     Row("cp -r service/vault/office_vault"),
     Row("install -m 755 service/vault/office-vault"),
+    Row("cp -r service/office-.service.d"),
     Row("cp service/vault/office-vault@.service"),
     Row("cp service/vault/office-vault-sweep@"),
     Row("cp service/vault/office-vault-check@"),

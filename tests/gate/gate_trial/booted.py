@@ -37,7 +37,8 @@ class Machine:
         self.top, self.boot = top, Boot(top, "--private-network")
         small_debian.unpack("gate", top)
         for it in PARTS:
-            shutil.copytree(TOP / it, top / SOURCES[1:] / it, ignore=shutil.ignore_patterns("__pycache__"))
+            shutil.copytree(TOP / it, top / SOURCES[1:] / it, symlinks=True,
+                            ignore=shutil.ignore_patterns("__pycache__"))
         (top / "usr/local/bin").mkdir(parents=True, exist_ok=True)
         shutil.copy(shutil.which(OFFICE) or OFFICE, top / "usr/local/bin/office")
 

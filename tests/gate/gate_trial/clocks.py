@@ -6,12 +6,14 @@ right says a library of this trial, in the place of the system.
 import datetime
 import os
 import pathlib
+import re
 import subprocess
 import time
 
 from gate_trial.base import SETTINGS, filing, plan
 from gate_trial.judging import judge, same
 from gate_trial.world import GATE, JOURNAL, OFFICE, PYTHON, TOP, World, today
+from kit.units import text_of
 
 FAKETIME = "/usr/lib/x86_64-linux-gnu/faketime/libfaketime.so.1"
 KEPT = """#include <stdlib.h>
@@ -46,7 +48,8 @@ def allowed() -> None:
     for what, words in (("without the unit", []), ("in the unit", [TOP / "tests/unit_filter.py", unit])):
         done = subprocess.run([*words, PYTHON, "-I", "-c", code], capture_output=True, text=True, check=False)
         judge(f"it can be asked {what}", done.stdout in ("True\n", "False\n"), done.stderr)
-    judge("no other line of the unit forbids it", "ProtectClock=yes" not in unit.read_text())
+    protected = re.findall("^ProtectClock=(.*)$", text_of(unit), re.MULTILINE)
+    judge("no other line of the unit forbids it", protected[-1:] == ["no"], protected)
 
 
 class Fake:

@@ -66,7 +66,12 @@ BREAKS = (
           "timeout: 20s")),
     Break("docs/ERRORS.md", "", "[nowhere](nowhere.md)", "tests/links"),
     # what other programs of a machine read
-    Break("service/office@.service", "NoNewPrivileges=yes", "NoNewPrivilege=yes", "units"),
+    Break("service/office@.service", "PrivateNetwork=yes", "PrivateNetworks=yes", "units"),
+    Break("service/office-.service.d/hardening.conf", "NoNewPrivileges=yes", "NoNewPrivilege=yes", "units"),
+    Break("service/office-.service.d/hardening.conf", "NoNewPrivileges=yes\n", "", "hardening",
+          ("service/office-backup@.service", "# Copies the office NAME once")),
+    Break("service/office-scrub@.service", "PrivateNetwork=yes\n", "", "hardening",
+          ("service/office-scrub@.service", "# Compares the contents of the newest backup")),
     Break("service/gate/office-gate@.service", "[Service]", "[Servce]", "units"),
     Break("service/office-scrub@.timer", "OnCalendar=", "OnCalendar=every ", "units"),
     Break("service/nginx/gated.conf", "return 404;", "retrun 404;", "nginx"),

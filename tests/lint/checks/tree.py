@@ -38,7 +38,8 @@ def by_walk() -> list[str]:
 def files() -> tuple[str, ...]:
     """Lists the files of the repository, as paths from its top."""
     names = by_git() or by_walk()
-    return tuple(sorted({name for name in names if name and (TOP / name).is_file()}))
+    there = {name for name in names if name and (os.path.isfile(TOP / name) or os.path.islink(TOP / name))}
+    return tuple(sorted(there))
 
 
 @functools.cache

@@ -22,11 +22,11 @@ STRICT = ("--strict", "--no-error-summary", "--no-color-output", "--hide-error-c
 
 
 class Group(NamedTuple):
-    """A folder whose Python one call of mypy reads, where it looks for imports, and the only file, if it is one."""
+    """A folder whose Python one call of mypy reads, where it looks for imports, and how the names of its files begin."""
 
     folder: str
     path: str = "."
-    only: str = ""
+    only: tuple[str, ...] = ("",)
 
 
 GROUPS = (
@@ -36,8 +36,8 @@ GROUPS = (
     Group("replicas"),
     Group("packaging"),
     Group("tools"),
-    Group("tests/lint"),
-    Group("tests", only="tests/planting.py"),
+    Group("tests/lint", ".:.."),
+    Group("tests", only=("tests/planting.py", "tests/kit/")),
 )
 
 
@@ -45,7 +45,7 @@ def group_of(name: str) -> Group | None:
     """Returns the group that has a file, if one has: that of the innermost folder."""
     if not is_python(name):
         return None
-    groups = [item for item in GROUPS if name.startswith(f"{item.folder}/") and item.only in ("", name)]
+    groups = [item for item in GROUPS if name.startswith(f"{item.folder}/") and name.startswith(item.only)]
     return max(groups, key=lambda item: len(item.folder)) if groups else None
 
 

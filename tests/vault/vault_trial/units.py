@@ -8,6 +8,7 @@ import subprocess
 
 import small_debian
 from booting import Boot
+from kit.units import lay_out
 from vault_trial.judging import judge, same
 from vault_trial.places import OFFICE, SCRIPTS, VAULT
 
@@ -36,8 +37,7 @@ class Machine:
                 shutil.copy(it, places[0])
         shutil.copytree(SCRIPTS / "office_serve", places[1] / "office_serve")
         shutil.copytree(VAULT / "office_vault", places[1] / "office_vault")
-        for it in [*SCRIPTS.glob("*@.*"), *VAULT.glob("*@.*")]:
-            shutil.copy(it, places[2])
+        lay_out(places[2], SCRIPTS, VAULT)
         (self.top / "etc/office").mkdir(exist_ok=True)
         shutil.copy(SCRIPTS / "city.conf", self.top / "etc/office/city.conf")
         (self.top / "root/file").write_bytes(DATA)
