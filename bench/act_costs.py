@@ -10,7 +10,7 @@ import hashlib
 import io
 import sqlite3
 
-from fuzzing.rules import MOST
+from fuzz.rules import MOST
 from many_records import day_text, due_after, number_of, put
 
 ENDINGS = ("destroyed", "transferred")

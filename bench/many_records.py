@@ -6,7 +6,7 @@ import datetime
 import functools
 import sqlite3
 
-from fuzzing.rules import MOST, offset_from, plus
+from fuzz.rules import MOST, offset_from, plus
 from save_records import DAY, DIGEST, TABLES
 
 EPOCH = datetime.date(1970, 1, 1)

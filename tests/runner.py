@@ -43,7 +43,10 @@ TAIL, JUDGED = 20, 40
 
 
 class Trial(NamedTuple):
-    """A trial: its command from the top, what it tries, its parts, what it needs, its minutes, its limit in seconds."""
+    """A trial: its command from the top, what it tries, its parts, what it needs, its minutes, its limit in seconds.
+
+    `called` is its name, if that is not the folder of the command.
+    """
 
     command: str
     tries: str
@@ -51,10 +54,13 @@ class Trial(NamedTuple):
     needs: str = "program"
     minutes: int | None = None
     limit: int = DAY
+    called: str = ""
 
     @property
     def name(self) -> str:
         """The name that a user gives: the folder of the command, with the part if the trial is one part of it."""
+        if self.called:
+            return self.called
         command, *parts = [part for part in self.arguments if not part.startswith("-") and not part.isdigit()]
         base = re.sub(r"^(tests|bench|\.ci)/|/run$|\.py$", "", command)
         return f"{base}/{parts[0]}" if len(parts) == 1 and self.limit < DAY else base

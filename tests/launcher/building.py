@@ -10,9 +10,9 @@ import time
 from collections.abc import Callable
 
 from clone import Clone
-from pages_run.commands import TOP
-from pages_run.judging import judge
-from pages_run.shell import PROGRAM
+from pages.commands import TOP
+from pages.judging import judge
+from pages.shell import PROGRAM
 
 sys.path.append(str(TOP / "packaging"))
 

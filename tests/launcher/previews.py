@@ -8,9 +8,9 @@ from collections.abc import Callable
 
 from building import help_of_program, table
 from clone import Clone
-from pages_run.commands import commands
-from pages_run.judging import judge
-from pages_run.shell import Done, Shell
+from pages.commands import commands
+from pages.judging import judge
+from pages.shell import Done, Shell
 
 DUE = "clone/office due years 7 from-month-4 2017-06-30"
 INIT = "clone/office init archive.db"

@@ -9,8 +9,8 @@ import subprocess
 
 from building import with_mount
 from clone import Clone
-from pages_run.commands import TOP
-from pages_run.judging import judge
+from pages.commands import TOP
+from pages.judging import judge
 from previews import WHOLE
 
 STORY = TOP / "examples/city_archive"

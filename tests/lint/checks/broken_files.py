@@ -44,7 +44,7 @@ BREAKS = (
     Break("packaging/postinst", "", "fi", "hooks", ("packaging/postinst", "#!/bin/sh")),
     Break("packaging/completion", "", "( echo ) )", "shell"),
     Break("packaging/completion", "", "( echo ) )", "completion"),
-    Break("tests/refused_memory.c", "", "int never(void) { return }", "c"),
+    Break("tests/refused_memory/refused_memory.c", "", "int never(void) { return }", "c"),
     # the page
     Break("web/views/due.js", "", 'import "./nowhere.js";', "imports"),
     Break("web/index.html", "</section>", "", "html", ("web/index.html", "</main>")),

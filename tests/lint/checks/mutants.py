@@ -13,7 +13,7 @@ LISTS = {
     "tests/web/mutants": ("tests/web/planted.py", "web/"),
     "tests/transfer/mutants": ("tests/transfer/mutants", "tools/", "service/office"),
     "tests/intake/mutants": ("tests/intake/mutants", "tools/intake"),
-    "tests/replicas_mutants": ("tests/replica_trials/mutants.py", "replicas/replica/"),
+    "tests/replicas/mutants": ("tests/replicas/planted.py", "replicas/replica/"),
 }
 """each list, and how the names of the files begin of which it knows"""
 LINE = re.compile(r"^(?P<file>tests/[^:\n]+):(?P<line>\d+): (?P<text>.+)$", re.M)
