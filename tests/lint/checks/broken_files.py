@@ -99,11 +99,11 @@ BREAKS = (
     # planted mistakes
     Break("service/gate/office_gate/deciding.py", "        if not may[kind]:\n", "        if kind not in may:\n",
           "mutants",
-          ("tests/gate/mutants", '"the kind of an act is not looked at"')),
+          ("tests/gate/planted/roles.mutants", "## the kind of an act is not looked at\n")),
     Break("web/plain/forecast.js", 'row.held === null ? "destroy" : "skip"', 'row.held !== null ? "skip" : "destroy"',
           "mutants",
-          ("tests/web/planted.py", '"a run is foreseen without its holds"')),
+          ("tests/web/planted/forecast.mutants", "## a run is foreseen without its holds\n")),
     Break("tools/transferring/folder.py", "            if is_free:", "            if is_unused:",
           "tests/transfer/mutants --applies",
-          ("tests/transfer/mutants", '"one run takes away what another writes"')),
+          ("tests/transfer/planted.mutants", "## one run takes away what another writes\n")),
 )

@@ -37,7 +37,7 @@ GROUPS = (
     Group("packaging"),
     Group("tools"),
     Group("tests/lint", ".:.."),
-    Group("tests", only=("tests/planting.py", "tests/kit/")),
+    Group("tests", only=("tests/kit/",)),
 )
 
 
