@@ -5,6 +5,8 @@ import pathlib
 import socket
 import subprocess
 
+from kit.ports import free_port
+
 TOP = pathlib.Path(__file__).resolve().parent.parent.parent
 OFFICE = os.environ.get("OFFICE") or str(TOP / "office")
 FIRST, LATER, LAST = "2024-01-02", "2025-01-02", "2025-03-04"
@@ -88,11 +90,6 @@ def told_story(room, acts, office):
 
 
 # ---- a service
-
-
-def free_port():
-    with socket.create_server(("127.0.0.1", 0)) as held:
-        return held.getsockname()[1]
 
 
 class Service:

@@ -11,7 +11,7 @@ from collections.abc import Callable
 
 from clone import Clone
 from pages.commands import TOP
-from pages.judging import judge
+from kit.judging import judge
 from pages.shell import PROGRAM
 
 sys.path.append(str(TOP / "packaging"))

@@ -9,7 +9,7 @@ from collections.abc import Callable
 from building import help_of_program, table
 from clone import Clone
 from pages.commands import commands
-from pages.judging import judge
+from kit.judging import judge
 from pages.shell import Done, Shell
 
 DUE = "clone/office due years 7 from-month-4 2017-06-30"

@@ -10,7 +10,7 @@ import subprocess
 from building import with_mount
 from clone import Clone
 from pages.commands import TOP
-from pages.judging import judge
+from kit.judging import judge
 from previews import WHOLE
 
 STORY = TOP / "examples/city_archive"

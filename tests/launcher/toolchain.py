@@ -4,7 +4,7 @@ import subprocess
 import time
 
 from pages.commands import TOP
-from pages.judging import judge
+from kit.judging import judge
 from pages.shell import Shell
 from previews import COMPILED, MORE, SMALL, judge_alike, plain
 

@@ -1,6 +1,6 @@
 """docs/ACTS.md: how to see the office's day, and what a late day does."""
 from pages.expected import Row, run_page
-from pages.judging import judge
+from kit.judging import judge
 from pages.shell import Shell
 
 PAGE = "docs/ACTS.md"

@@ -9,7 +9,7 @@ from pages import city, service
 from pages.commands import TOP, commands
 from pages.expected import Row, run_page
 from pages.files import FIRST, judge_alone
-from pages.judging import judge
+from kit.judging import judge
 from pages.shell import Shell
 
 PAGE = "docs/BACKUP.md"

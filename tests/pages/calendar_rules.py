@@ -3,7 +3,7 @@ import re
 
 from pages.commands import TOP
 from pages.expected import Row, run_page
-from pages.judging import judge
+from kit.judging import judge
 from pages.shell import Shell
 
 PAGE = "docs/CALENDAR.md"

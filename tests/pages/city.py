@@ -3,7 +3,7 @@ import os
 import re
 
 from pages.commands import TOP
-from pages.judging import judge
+from kit.judging import judge
 from pages.shell import Shell
 
 FILE = "/var/lib/office/city/office.db"

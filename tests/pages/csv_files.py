@@ -2,7 +2,7 @@
 from collections.abc import Callable
 
 from pages.expected import Row, run_page
-from pages.judging import judge
+from kit.judging import judge
 from pages.shell import Shell
 
 PAGE = "docs/CSV.md"

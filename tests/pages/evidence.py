@@ -1,6 +1,6 @@
 """docs/EVIDENCE.md: seals for the auditor, a key made, withdrawn and followed by another, and a restore."""
 from pages.expected import Row, run_page
-from pages.judging import judge
+from kit.judging import judge
 from pages.shell import Shell
 
 PAGE = "docs/EVIDENCE.md"

@@ -4,7 +4,7 @@ from collections.abc import Callable, Sequence
 from dataclasses import dataclass
 
 from pages.commands import Command, commands
-from pages.judging import judge
+from kit.judging import judge
 from pages.shell import Shell
 
 

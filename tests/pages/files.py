@@ -5,7 +5,7 @@ import sqlite3
 import tempfile
 from collections.abc import Callable
 
-from pages.judging import judge
+from kit.judging import judge
 from pages.shell import Shell
 
 # a log that is shorter than its header and the head of a page has no act

@@ -4,7 +4,7 @@ import json
 
 from pages.commands import TOP, blocks
 from pages.expected import Row, run_page
-from pages.judging import judge
+from kit.judging import judge
 from pages.shell import Shell
 
 PAGE = "docs/HTTP.md"

@@ -1,6 +1,6 @@
 """docs/MANAGER.md: every command of it prints what the page shows."""
 from pages.expected import Row, run_page
-from pages.judging import judge
+from kit.judging import judge
 from pages.shell import Shell
 
 PAGE = "docs/MANAGER.md"

@@ -6,7 +6,7 @@ import sys
 from pages.commands import TOP
 from pages.expected import Row, run_page
 from pages.files import FIRST, alone
-from pages.judging import judge
+from kit.judging import judge
 from pages.shell import Shell
 
 sys.path.append(str(TOP / "packaging"))

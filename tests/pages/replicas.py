@@ -6,7 +6,7 @@ import subprocess
 import time
 
 from pages.expected import Row, run_page
-from pages.judging import judge
+from kit.judging import judge
 from pages.machines import Machines, act, wait_until
 from pages.shell import Shell
 

@@ -4,7 +4,7 @@ import os
 
 from pages import city, install
 from pages.expected import Row, run_page
-from pages.judging import judge
+from kit.judging import judge
 from pages.shell import Shell
 
 PAGE = "docs/SERVICE.md"

@@ -2,7 +2,7 @@
 import json
 
 from pages.expected import Row, run_page
-from pages.judging import judge
+from kit.judging import judge
 from pages.shell import Shell
 
 PAGE = "docs/VAULT.md"

@@ -6,7 +6,7 @@ import time
 
 from pages import city, service
 from pages.expected import Row, run_page
-from pages.judging import judge
+from kit.judging import judge
 from pages.shell import Shell
 
 EXPORTER = "prometheus-blackbox-exporter"

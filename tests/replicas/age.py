@@ -9,7 +9,7 @@ import threading
 import time
 
 from replicas.cluster import FAULTS, Cluster, Reply, ask
-from replicas.judging import judge
+from kit.judging import judge
 from replicas.posting import begun, get, post, posted, record
 from replicas.verdict import same_rows
 from kit.waiting import comes

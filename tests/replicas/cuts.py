@@ -10,7 +10,7 @@ from replicas import networks
 from replicas.acts import BEGIN
 from replicas.checks import Archivist
 from replicas.cluster import FAULTS, Cluster, Reply, ask
-from replicas.judging import judge
+from kit.judging import judge
 from replicas.traffic import Traffic
 from replicas.verdict import whole
 

@@ -13,7 +13,7 @@ from typing import Any
 
 from replicas.checks import Archivist
 from replicas.cluster import Cluster
-from replicas.judging import judge
+from kit.judging import judge
 from replicas.posting import begun, get, post, posted, record
 from replicas.verdict import same_rows
 

@@ -11,7 +11,7 @@ from typing import Any
 
 from replicas.cluster import FAULTS, Cluster, Reply, ask
 from replicas.doors import through_door
-from replicas.judging import judge
+from kit.judging import judge
 from replicas.posting import begun, get, halts, post, posted, record
 from replicas.verdict import same_rows
 

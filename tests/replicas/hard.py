@@ -14,7 +14,7 @@ import uuid
 from replicas import age, faults, going_back, history, late, moving, programs, requests, syncing, together
 from replicas.checks import Archivist
 from replicas.cluster import TOP, Cluster, ask
-from replicas.judging import judge
+from kit.judging import judge
 from replicas.posting import begun, get, halts, post, posted, record
 from replicas.verdict import same_rows
 

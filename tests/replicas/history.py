@@ -8,7 +8,7 @@ import time
 
 from replicas.checks import Archivist
 from replicas.cluster import Cluster
-from replicas.judging import judge
+from kit.judging import judge
 from replicas.posting import begun, posted, record
 from replicas.verdict import same_rows
 

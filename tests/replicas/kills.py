@@ -18,7 +18,7 @@ import time
 from replicas.acts import BEGIN
 from replicas.checks import Archivist
 from replicas.cluster import Cluster
-from replicas.judging import judge
+from kit.judging import judge
 from replicas.traffic import Traffic
 from replicas.verdict import whole
 

@@ -10,7 +10,7 @@ import time
 from replicas.checks import stale
 from replicas.cluster import FAULTS, Cluster, ask
 from replicas.doors import through_door
-from replicas.judging import judge
+from kit.judging import judge
 from replicas.posting import begun, post, posted, record
 from replicas.traffic import Read, Traffic
 from replicas.verdict import same_rows

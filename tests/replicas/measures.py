@@ -18,7 +18,7 @@ from typing import Any, Callable, NamedTuple
 from replicas.acts import BEGIN
 from replicas.checks import Bare
 from replicas.cluster import FAULTS, TOP, Cluster, Place, ask
-from replicas.judging import judge
+from kit.judging import judge
 from replicas.posting import posted, record
 from replicas.verdict import same_rows
 

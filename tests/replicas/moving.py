@@ -12,7 +12,7 @@ import time
 from replicas.acts import BEGIN, as_body
 from replicas.checks import Bare
 from replicas.cluster import REPLICAS, Cluster
-from replicas.judging import judge
+from kit.judging import judge
 from replicas.posting import begun, get, halts, posted, record
 from replicas.verdict import same_rows
 

@@ -17,7 +17,7 @@ from replicas import networks
 from replicas.acts import BEGIN
 from replicas.checks import Archivist, stale
 from replicas.cluster import Cluster
-from replicas.judging import judge
+from kit.judging import judge
 from replicas.networks import Drop
 from replicas.traffic import Traffic
 from replicas.verdict import whole

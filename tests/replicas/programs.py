@@ -12,7 +12,7 @@ import sys
 import time
 
 from replicas.cluster import OFFICE, REPLICAS, Cluster, ask
-from replicas.judging import judge
+from kit.judging import judge
 from replicas.posting import begun, get, halts, post, posted, record
 from replicas.verdict import same_rows
 from kit.waiting import comes

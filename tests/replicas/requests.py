@@ -14,7 +14,7 @@ from typing import Any
 from replicas.acts import BEGIN, NOT_ACTS
 from replicas.checks import Bare
 from replicas.cluster import REPLICAS, Cluster, Place, Reply, ask
-from replicas.judging import judge
+from kit.judging import judge
 from replicas.networks import socket_in
 from replicas.posting import post, posted, record
 

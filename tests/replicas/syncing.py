@@ -9,7 +9,7 @@ import sys
 import time
 
 from replicas.cluster import REPLICAS, Cluster
-from replicas.judging import judge
+from kit.judging import judge
 from replicas.posting import begun, posted, record
 from replicas.verdict import same_rows
 from kit.waiting import comes

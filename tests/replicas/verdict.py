@@ -7,7 +7,7 @@ import subprocess
 from replicas.acts import KINDS
 from replicas.checks import Archivist, accepted_kinds, log_faults, replay, rows_of
 from replicas.cluster import Cluster
-from replicas.judging import judge
+from kit.judging import judge
 from replicas.traffic import Traffic
 
 

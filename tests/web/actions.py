@@ -5,7 +5,7 @@ import pathlib
 
 from browser import Browser
 from events import NO_ANSWER, refused
-from judging import same
+from kit.judging import same
 from late import after
 from place import Office, Proxy
 from shots import shots

@@ -11,7 +11,7 @@ import time
 import catalogue
 from browser import Browser
 from counted import Counted
-from judging import judge, same
+from kit.judging import judge, same
 from late import TODAY, after
 from place import Office, Proxy
 from story import TEXTS, WHO, says

@@ -13,7 +13,7 @@ import big_office
 import looks
 from browser import Browser
 from interface import city
-from judging import judge, same
+from kit.judging import judge, same
 from place import OFFICE, TOP, Office, Proxy
 from shots import SCHEMES, SIZES, shots
 from story import TEXTS, says

@@ -7,7 +7,7 @@ import pathlib
 
 import layout
 from browser import Browser
-from judging import judge, same
+from kit.judging import judge, same
 from late import CLOCK, after
 from place import Office, Proxy
 from shots import shots

@@ -7,7 +7,7 @@ import zoneinfo
 
 import looks
 from browser import Browser
-from judging import judge, same
+from kit.judging import judge, same
 from late import CLOCKS, FORMS, LATE, Form, after, fill
 from place import Office, Proxy
 from shots import shots

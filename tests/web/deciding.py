@@ -12,7 +12,7 @@ import catalogue
 import layout
 import looks
 from browser import Browser
-from judging import judge, same
+from kit.judging import judge, same
 from late import TODAY
 from place import TOP, Office, Proxy
 from shots import shots

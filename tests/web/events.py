@@ -3,7 +3,7 @@ import json
 import pathlib
 
 from browser import Browser
-from judging import judge, same
+from kit.judging import judge, same
 from late import after
 from place import Office, Proxy
 from story import TEXTS, WHO, Story, says

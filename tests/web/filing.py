@@ -11,7 +11,7 @@ from selenium.webdriver.common.keys import Keys
 import layout
 import looks
 from browser import Browser
-from judging import judge, same
+from kit.judging import judge, same
 from late import after
 from place import TOP, Office, Proxy, full
 from shots import SIZES, shot

@@ -16,7 +16,7 @@ import threading
 import time
 
 import shots
-from judging import judge, same
+from kit.judging import judge, same
 from place import Proxy
 
 # the address of a view, and the path that it asks for

@@ -4,7 +4,7 @@ from __future__ import annotations
 import pathlib
 
 from browser import Browser
-from judging import same
+from kit.judging import same
 from late import after
 from place import Office, Proxy
 from story import TEXTS, Story, says

@@ -7,7 +7,7 @@ import pathlib
 import looks
 from browser import Browser
 from filing import View, fill
-from judging import judge, same
+from kit.judging import judge, same
 from late import after
 from place import Office, Proxy
 from shots import SIZES, shot

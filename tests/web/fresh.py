@@ -5,7 +5,7 @@ import time
 
 import catalogue
 from browser import Browser
-from judging import judge, same
+from kit.judging import judge, same
 from place import Office, Proxy
 from story import TEXTS
 

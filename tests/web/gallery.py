@@ -15,7 +15,7 @@ import shots
 import town
 from browser import Browser, browser
 from deciding import PDF, png
-from judging import same
+from kit.judging import same
 from late import after
 from place import Office, Proxy
 from story import WHO

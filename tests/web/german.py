@@ -8,7 +8,7 @@ import catalogue
 import layout
 import looks
 from browser import Browser
-from judging import judge, same
+from kit.judging import judge, same
 from place import TOP, Proxy
 from texts import flat
 

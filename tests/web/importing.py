@@ -12,7 +12,7 @@ import layout
 import looks
 from browser import Browser
 from filing import SHOWN
-from judging import judge, same
+from kit.judging import judge, same
 from late import after
 from place import TOP, Office, Proxy
 from shots import SIZES, shot

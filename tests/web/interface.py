@@ -9,7 +9,7 @@ import socket
 import jsonschema
 import yaml
 
-from judging import judge, same
+from kit.judging import judge, same
 from openapi_form import FORM
 from place import TOP, Office, free_port, full
 

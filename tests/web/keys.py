@@ -8,7 +8,7 @@ import re
 from actions import View as Record
 from actions import fill
 from browser import Browser
-from judging import judge, same
+from kit.judging import judge, same
 from late import after
 from place import Office, Proxy
 from story import TEXTS, WHO, Story, says

@@ -15,7 +15,7 @@ import big_office
 import catalogue
 import typed
 from browser import Browser
-from judging import judge, same
+from kit.judging import judge, same
 from place import Office, Proxy
 
 # milliseconds

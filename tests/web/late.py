@@ -5,7 +5,7 @@ import json
 import pathlib
 
 from browser import Browser
-from judging import judge, same
+from kit.judging import judge, same
 from place import Office, Proxy
 from story import TEXTS, Story, says
 

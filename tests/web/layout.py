@@ -4,7 +4,7 @@ import re
 import subprocess
 
 from browser import Browser
-from judging import judge, same
+from kit.judging import judge, same
 from place import Proxy
 
 WIDTHS = (1280, 1100, 1000, 800, 400)

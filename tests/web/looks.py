@@ -4,7 +4,7 @@ import shutil
 import subprocess
 import time
 
-from judging import judge, same
+from kit.judging import judge, same
 from place import TOP
 from shots import SCHEMES, SIZES, shots
 

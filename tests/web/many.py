@@ -4,7 +4,7 @@ import os
 import subprocess
 import time
 
-from judging import judge, same
+from kit.judging import judge, same
 from place import OFFICE
 from story import WHO
 

@@ -6,7 +6,7 @@ import pathlib
 
 from browser import Browser, browser
 from importing import EMPTY, MATCHED, WORDS, View, columns_of, fill, in_column, unmatched
-from judging import same
+from kit.judging import same
 from place import TOP, Office, Proxy
 from story import Story, says
 

@@ -12,7 +12,7 @@ import catalogue
 from browser import Browser
 from events import FORM
 from events import View as EventView
-from judging import judge, same
+from kit.judging import judge, same
 from place import Office, Proxy
 from story import TEXTS, Story, says
 

@@ -4,7 +4,7 @@ import pathlib
 import unicodedata
 
 from browser import Browser
-from judging import judge, same
+from kit.judging import judge, same
 from layout import on_paper, words
 from place import Office, Proxy
 from story import Story

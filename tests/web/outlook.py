@@ -7,7 +7,7 @@ import pathlib
 import looks
 from browser import Browser
 from interface import city
-from judging import judge, same
+from kit.judging import judge, same
 from place import Office, Proxy
 from shots import shots
 from story import TEXTS

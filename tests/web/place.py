@@ -16,6 +16,8 @@ import ssl
 import subprocess
 import time
 
+from kit.ports import free_port
+
 TOP = pathlib.Path(__file__).resolve().parent.parent.parent
 OFFICE = os.environ.get("OFFICE", str(TOP / "office"))
 # the page that is tried; mutants names another one
@@ -36,11 +38,6 @@ http {{
 {site}
 }}
 """
-
-
-def free_port():
-    with socket.create_server(("127.0.0.1", 0)) as held:
-        return held.getsockname()[1]
 
 
 def replaced(text, old, new):

@@ -7,7 +7,7 @@ import subprocess
 from browser import Browser
 from due_days import by_plan, cases, office_due
 from interface import city
-from judging import judge, same
+from kit.judging import judge, same
 from place import OFFICE, TOP, Office, Proxy
 from shots import shots
 from story import TEXTS, Story, says

@@ -2,7 +2,7 @@
 import json
 
 from browser import Browser
-from judging import judge, same
+from kit.judging import judge, same
 from place import Proxy
 from story import TEXTS, says
 

@@ -9,7 +9,7 @@ import pathlib
 
 from browser import Browser, browser
 from importing import View, fill
-from judging import same
+from kit.judging import same
 from place import TOP, Office, Proxy
 from story import TEXTS, Story
 

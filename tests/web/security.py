@@ -4,7 +4,7 @@ import json
 import threading
 import time
 
-from judging import judge, same
+from kit.judging import judge, same
 
 OPEN = json.dumps([{"act": "open-run", "day": "2999-12-31", "by": "somebody else"}])
 # a page of somebody else, which posts by a form, and one which posts by a script, both with the password that the browser has

@@ -5,7 +5,7 @@ import pathlib
 
 from actions import fill
 from browser import Browser
-from judging import judge, same
+from kit.judging import judge, same
 from place import Office, Proxy
 
 # The lines Office-After and Office-Read of the readings, as the page sends them; the office answers, and in its answer are

@@ -9,7 +9,7 @@ import layout
 import looks
 from browser import Browser
 from importing import View
-from judging import judge, same
+from kit.judging import judge, same
 from place import Office, Proxy
 from shots import SIZES, shot
 from story import TEXTS, Story, says

@@ -15,7 +15,7 @@ from typing import Any
 import catalogue
 from browser import Browser
 from counted import Counted
-from judging import judge, same
+from kit.judging import judge, same
 from late import after
 from place import Office, Proxy
 from story import TEXTS, WHO, says

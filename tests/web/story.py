@@ -9,7 +9,7 @@ import sqlite3
 import time
 
 from interface import city
-from judging import judge, same
+from kit.judging import judge, same
 from place import TOP, full
 
 WHO = "R. Halloran, records manager"

@@ -6,7 +6,7 @@ import collections
 import json
 import re
 
-from judging import judge, same
+from kit.judging import judge, same
 from place import TOP
 
 # the tables of docs/ERRORS.md that the page shares, and what their columns are called in the file of texts

@@ -7,7 +7,7 @@ import subprocess
 
 import town
 from browser import Browser
-from judging import judge, same
+from kit.judging import judge, same
 from late import after
 from place import Office, Proxy
 from shots import shots

@@ -11,7 +11,7 @@ from selenium.webdriver.common.keys import Keys
 
 import town
 from browser import Browser, browser
-from judging import judge, same
+from kit.judging import judge, same
 from late import after
 from place import NAME, Office, Proxy
 from story import TEXTS, WHO, Story, says

@@ -9,7 +9,7 @@ from typing import Any
 import catalogue
 import town
 from browser import Browser, browser
-from judging import judge, same
+from kit.judging import judge, same
 from late import after
 from place import Office, Proxy
 from story import TEXTS, Story, says

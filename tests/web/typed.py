@@ -9,7 +9,7 @@ import statistics
 
 import big_office
 from browser import Browser
-from judging import judge, same
+from kit.judging import judge, same
 from story import TEXTS
 
 # milliseconds

@@ -17,7 +17,7 @@ import looks
 from browser import Browser
 from deciding import PDF, png
 from filing import View, fill
-from judging import judge, same
+from kit.judging import judge, same
 from place import TOP, Office, Proxy
 from shots import SIZES, shot
 from story import TEXTS, Story, says

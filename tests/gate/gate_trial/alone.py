@@ -9,7 +9,7 @@ import pathlib
 from collections.abc import Callable
 
 from gate_trial.base import CITY, ROLES, filing, plan
-from gate_trial.judging import judge, same
+from kit.judging import judge, same
 from gate_trial.settings import run
 from gate_trial.world import SITE, World, today
 

@@ -12,7 +12,7 @@ import time
 from typing import Any
 
 from gate_trial.base import SETTINGS
-from gate_trial.judging import judge, same
+from kit.judging import judge, same
 from gate_trial.world import HERE, TOKEN, World
 
 RECORD = b'{"number":1,"class":"BLDG1","status":"here","aggregation":1}'

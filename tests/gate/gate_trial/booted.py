@@ -6,7 +6,7 @@ import subprocess
 
 import small_debian
 from booting import Boot
-from gate_trial.judging import judge
+from kit.judging import judge
 from gate_trial.world import OFFICE, TOP
 
 SOURCES = "/root/office"

@@ -6,7 +6,7 @@ import resource
 import time
 
 from gate_trial.base import SETTINGS, filing, made
-from gate_trial.judging import judge, same
+from kit.judging import judge, same
 from gate_trial.world import World, today
 
 CLERK = """

@@ -11,7 +11,7 @@ import subprocess
 import time
 
 from gate_trial.base import SETTINGS, filing, plan
-from gate_trial.judging import judge, same
+from kit.judging import judge, same
 from gate_trial.world import GATE, JOURNAL, OFFICE, PYTHON, TOP, World, today
 from kit.units import text_of
 

@@ -8,7 +8,7 @@ import threading
 import time
 
 from gate_trial.base import SETTINGS, filing, made, plan
-from gate_trial.judging import judge, same
+from kit.judging import judge, same
 from gate_trial.recovery import closed, replayed
 from gate_trial.replay import rows
 from gate_trial.world import World

@@ -4,7 +4,7 @@ import pathlib
 import zoneinfo
 
 from gate_trial.base import SETTINGS, made
-from gate_trial.judging import judge, same
+from kit.judging import judge, same
 from gate_trial.world import World, today
 
 LATE = "role late may lift-hold later-day\nname late is late\n"

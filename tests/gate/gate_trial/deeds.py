@@ -10,7 +10,7 @@ from selenium.webdriver.common.by import By
 
 from gate_trial.base import filing
 from gate_trial.browsing import Browser, texts
-from gate_trial.judging import judge, same
+from kit.judging import judge, same
 from gate_trial.proxy import Proxy
 from gate_trial.roles import ACTS, MAY, READS
 from gate_trial.world import World, today

@@ -8,7 +8,7 @@ import subprocess
 import sys
 
 from gate_trial.base import made
-from gate_trial.judging import judge, same
+from kit.judging import judge, same
 from gate_trial.world import JOURNAL, PYTHON, WAIT_SECONDS, World, until
 
 sys.path.insert(0, str(JOURNAL.parent))

@@ -7,7 +7,7 @@ import time
 
 from gate_trial.base import ROLES, filing, made
 from gate_trial.classes import write_catalogue
-from gate_trial.judging import judge, same
+from kit.judging import judge, same
 from gate_trial.world import World, today, until
 
 NAMES = "".join(f"name {it} is records-manager\n" for it in ("anna", "berta", "carl", "records-manager"))

@@ -5,7 +5,7 @@ import threading
 import time
 
 from gate_trial.base import SETTINGS, made
-from gate_trial.judging import judge, same
+from kit.judging import judge, same
 from gate_trial.world import World, today
 
 GREEDY = SETTINGS.replace("limit requests 64", "limit requests 40").replace("limit lists 8", "limit lists 2")

@@ -5,7 +5,7 @@ import subprocess
 import sys
 
 from gate_trial.base import SETTINGS, filing, made
-from gate_trial.judging import judge, same
+from kit.judging import judge, same
 from gate_trial.world import JOURNAL, PYTHON, SOURCES, TOP, World, today
 
 sys.path.insert(0, str(JOURNAL.parent))

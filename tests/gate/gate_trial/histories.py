@@ -5,7 +5,7 @@ import signal
 import time
 
 from gate_trial.base import filing, made
-from gate_trial.judging import judge, same
+from kit.judging import judge, same
 from gate_trial.world import World, today
 
 CLERK = """

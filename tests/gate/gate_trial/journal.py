@@ -11,7 +11,7 @@ from collections.abc import Callable
 from functools import partial
 
 from gate_trial.base import SETTINGS, filing, made
-from gate_trial.judging import judge, same
+from kit.judging import judge, same
 from gate_trial.world import JOURNAL, PYTHON, World, until
 
 sys.path.insert(0, str(JOURNAL.parent))

@@ -14,7 +14,7 @@ import threading
 import time
 
 from gate_trial.acts import KINDS, Acts
-from gate_trial.judging import judge, same
+from kit.judging import judge, same
 from gate_trial.world import HERE, JOURNAL, OFFICE, PYTHON, TOKEN, World, parted
 
 CLIENTS = 4

@@ -10,7 +10,7 @@ import time
 from collections.abc import Callable, Coroutine
 
 from gate_trial.base import SETTINGS
-from gate_trial.judging import judge, same
+from kit.judging import judge, same
 from gate_trial.stood import Stood
 from gate_trial.world import HERE, JOURNAL, TOKEN, World, today
 

@@ -3,7 +3,7 @@ import pathlib
 
 from gate_trial.base import made
 from gate_trial.ends import PRINTED, log, waited
-from gate_trial.judging import judge, same
+from kit.judging import judge, same
 
 SECONDS = 180
 """a minute, and what a machine under load takes"""

@@ -5,7 +5,7 @@ import json
 import pathlib
 
 from gate_trial.base import SETTINGS, filing, plan
-from gate_trial.judging import judge, same
+from kit.judging import judge, same
 from gate_trial.proxy import PASSWORD, Proxy
 from gate_trial.world import TOKEN, World, today
 

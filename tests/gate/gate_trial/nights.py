@@ -6,7 +6,7 @@ import threading
 import time
 
 from gate_trial.base import SETTINGS, filing, plan
-from gate_trial.judging import judge, same
+from kit.judging import judge, same
 from gate_trial.world import JOURNAL, OFFICE, PYTHON, TOP, World, today
 
 BACKUP = TOP / "service/office-backup"

@@ -7,7 +7,7 @@ import pathlib
 
 from gate_trial.calls import is_there
 from gate_trial.disk import NEVER
-from gate_trial.judging import judge, same
+from kit.judging import judge, same
 from gate_trial.seen import Act, Seen
 from gate_trial.workload import Client, alone, files, started, together, turned, unanswered
 

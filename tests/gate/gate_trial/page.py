@@ -12,7 +12,7 @@ from gate_trial import reasons
 from gate_trial.base import SETTINGS, filing, plan
 from gate_trial.browsing import LANGUAGES, Browser, texts
 from gate_trial.deeds import Stage, Stages, all_done, all_forged, by_form
-from gate_trial.judging import judge, same
+from kit.judging import judge, same
 from gate_trial.proxy import PASSWORD, Proxy
 from gate_trial.roles import MAY, READS
 from gate_trial.world import OFFICE, TOP, World, today

@@ -11,7 +11,7 @@ from selenium.webdriver.common.by import By
 
 from gate_trial.base import SETTINGS, filing, plan
 from gate_trial.browsing import LANGUAGES, Browser, texts
-from gate_trial.judging import judge, same
+from kit.judging import judge, same
 from gate_trial.proxy import Proxy
 from gate_trial.world import OFFICE, TOP, World, today
 

@@ -15,7 +15,7 @@ from dataclasses import dataclass
 
 from gate_trial.calls import Traced, is_there
 from gate_trial.disk import Disk, File
-from gate_trial.judging import judge, same
+from kit.judging import judge, same
 from gate_trial.seen import Line, Seen, digests
 from gate_trial.workload import SETTINGS, Client, alone, files, placing, started, together, turned
 from gate_trial.world import JOURNAL, SITE, SOURCES, TOKEN, World

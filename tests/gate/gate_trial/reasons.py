@@ -5,7 +5,7 @@ from selenium.webdriver.common.by import By
 
 from gate_trial.browsing import Browser
 from gate_trial.deeds import MARKED, NEEDED, Stage
-from gate_trial.judging import judge, same
+from kit.judging import judge, same
 from gate_trial.proxy import Proxy
 from gate_trial.world import World, today
 

@@ -3,7 +3,7 @@ import hashlib
 import pathlib
 
 from gate_trial.base import ROLES, filing, made
-from gate_trial.judging import judge, same
+from kit.judging import judge, same
 from gate_trial.world import World
 
 NAMES = "".join(f"name {it} is records-manager\nname {it} is archive\n" for it in ("anna", "berta", "carl"))

@@ -12,7 +12,7 @@ import sys
 import time
 
 from gate_trial.acts import Acts
-from gate_trial.judging import judge
+from kit.judging import judge
 from gate_trial.world import JOURNAL, OFFICE, PYTHON, SOURCES, World
 
 sys.path[:0] = [str(JOURNAL.parent), str(SOURCES / "vault")]

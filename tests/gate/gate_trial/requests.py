@@ -2,7 +2,7 @@
 import pathlib
 
 from gate_trial.base import made
-from gate_trial.judging import judge, same
+from kit.judging import judge, same
 from gate_trial.world import HERE, TOKEN, World, parted, said, until
 
 BODY = b'[{"act":"lift-hold","day":"2001-01-01","hold":"H"}]'

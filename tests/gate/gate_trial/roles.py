@@ -4,7 +4,7 @@ import pathlib
 from typing import Any
 
 from gate_trial.base import filing, made
-from gate_trial.judging import judge, same
+from kit.judging import judge, same
 from gate_trial.world import World, today
 
 MANAGER = {"add-schedule", "add-class", "set-class-schedule", "set-record-schedule", "reclassify", "add-aggregation",

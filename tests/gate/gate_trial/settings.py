@@ -6,7 +6,7 @@ import subprocess
 import threading
 
 from gate_trial.base import CITY, SETTINGS, made
-from gate_trial.judging import judge, same
+from kit.judging import judge, same
 from gate_trial.world import GATE, PYTHON, World
 
 WRONG = ["role a may confrim", "role a may", "role A may confirm", "role a reads everything",

@@ -7,7 +7,7 @@ import shutil
 import subprocess
 
 from gate_trial.base import SETTINGS, plan
-from gate_trial.judging import judge
+from kit.judging import judge
 from gate_trial.proxy import PASSWORD, Proxy
 from gate_trial.world import World, today
 

@@ -9,7 +9,7 @@ import time
 from collections import Counter
 
 from gate_trial.base import SETTINGS, plan
-from gate_trial.judging import judge, same
+from kit.judging import judge, same
 from gate_trial.world import HERE, TOKEN, World, today
 
 ROUNDS = 5

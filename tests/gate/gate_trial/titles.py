@@ -7,7 +7,7 @@ import subprocess
 import time
 
 from gate_trial.base import SETTINGS, filing
-from gate_trial.judging import judge, same
+from kit.judging import judge, same
 from gate_trial.world import OFFICE, TOP, World, today
 
 MORE = """

@@ -4,7 +4,7 @@ import json
 import pathlib
 
 from gate_trial.base import filing, made
-from gate_trial.judging import judge, same
+from kit.judging import judge, same
 from gate_trial.world import World, today
 
 DAY = today()

@@ -11,7 +11,7 @@ from typing import Any
 
 from gate_trial.base import filing, plan
 from gate_trial.booted import Machine, commands
-from gate_trial.judging import judge, same
+from kit.judging import judge, same
 from gate_trial.world import today, until
 
 GATE = "office-gate@city"

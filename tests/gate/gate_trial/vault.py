@@ -10,7 +10,7 @@ import time
 from typing import Any
 
 from gate_trial.base import SETTINGS, filing, plan
-from gate_trial.judging import judge, same
+from kit.judging import judge, same
 from gate_trial.proxy import Proxy
 from gate_trial.world import SOURCES, STARTED, World, today
 

@@ -13,7 +13,7 @@ from typing import Any
 from gate_trial.answers import Stand
 from gate_trial.base import ROLES, filing, plan
 from gate_trial.calls import Traced
-from gate_trial.judging import same
+from kit.judging import same
 from gate_trial.world import HERE, TOKEN, parted, today
 
 NAMES = "".join(f"name {name} is {name}\n" for name in ("registry", "legal", "auditor", "archive"))

@@ -11,6 +11,8 @@ import time
 from collections.abc import Callable
 from typing import Any
 
+from kit.ports import free_port
+
 TOP = pathlib.Path(__file__).resolve().parents[3]
 OFFICE = os.environ.get("OFFICE") or str(TOP / "crates/office/out/office")
 SOURCES = pathlib.Path(os.environ.get("GATE_SOURCES") or TOP / "service")
@@ -32,8 +34,6 @@ WAIT_SECONDS = 60
 """what a machine under load takes at most for what takes a moment"""
 END_SECONDS = 10
 """what a program takes at most to end by SIGTERM"""
-PORTS: set[int] = set()
-"""the ports that this trial handed out"""
 
 
 def lead(words: list[str]) -> subprocess.Popen[Any]:
@@ -84,16 +84,6 @@ def until(holds: Callable[[], object], seconds: float = WAIT_SECONDS) -> bool:
             return False
         time.sleep(0.01)
     return True
-
-
-def free_port() -> int:
-    """Returns a port that nobody listens at, each one once."""
-    while True:
-        with socket.create_server(("127.0.0.1", 0)) as it:
-            port = int(it.getsockname()[1])
-        if port not in PORTS:
-            PORTS.add(port)
-            return port
 
 
 class World:

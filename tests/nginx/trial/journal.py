@@ -9,7 +9,7 @@ import time
 from kit.judging import judge, same
 from kit.waiting import comes
 from trial import place
-from trial.judging import absent
+from kit.judging import absent
 from trial.place import HERE, JOURNAL, ask, post, run
 
 SECRET = b"the secret of the content"

@@ -3,7 +3,7 @@ import re
 from typing import TYPE_CHECKING
 
 from making import staging
-from trying.judging import judge
+from kit.judging import judge
 
 if TYPE_CHECKING:
     from trying.booted import Booted

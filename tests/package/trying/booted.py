@@ -3,7 +3,7 @@ import pathlib
 
 from booting import Boot
 from trying.apart import judge_apart
-from trying.judging import judge
+from kit.judging import judge
 from trying.kept import judge_kept, put
 from trying.machine import Done, Machine, run
 from trying.stopping import ASK_FILE, judge_compaction, judge_hung, judge_missing, judge_pruned, judge_stopping

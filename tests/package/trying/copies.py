@@ -4,7 +4,7 @@ import subprocess
 
 from making import copies
 from making.words import TOP
-from trying.judging import judge
+from kit.judging import judge
 from trying.machine import Machine
 
 RELEASE = "cf40ed1f"

@@ -5,7 +5,7 @@ import pathlib
 from typing import TYPE_CHECKING
 
 from making.words import TOP
-from trying.judging import judge
+from kit.judging import judge
 from trying.stopping import AS_OFFICE
 
 if TYPE_CHECKING:

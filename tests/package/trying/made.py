@@ -9,7 +9,7 @@ import subprocess
 from making import staging
 from making.words import TOP, table
 from trying import copies
-from trying.judging import judge
+from kit.judging import judge
 from trying.machine import run
 
 PROGRAM = pathlib.Path(os.environ.get("OFFICE", TOP / "crates/office/out/office")).resolve()
@@ -117,7 +117,8 @@ def judge_named(top: pathlib.Path) -> None:
     """What the commands of the pages copy from service is in the package, but for what it puts elsewhere."""
     doc = top / "usr/share/doc/office"
     page = "\n".join((TOP / f"docs/{it}.md").read_text() for it in ("INSTALL", "SERVICE", "BACKUP", "WATCHING"))
-    named = set(re.findall(r"(?m)(?<=[ ])service/[\w@./-]+", "\n".join(re.findall(r"(?m)^    .*", page))))
+    copied = re.findall(r"(?m)(?<=[ ])service/[\w@./*-]+", "\n".join(re.findall(r"(?m)^    .*", page)))
+    named = {str(it.relative_to(TOP)) for pattern in copied for it in TOP.glob(pattern)} | {it for it in copied if "*" not in it}
     elsewhere = {it.source for it in staging.listed() if not f"/{it.folder}".startswith("/usr/share/doc")}
     missing = sorted(it for it in named if TOP / it not in elsewhere and not (doc / it).exists())
     judge("the package has the files that the pages copy", not missing and len(named) > 20, missing or named)

@@ -4,7 +4,7 @@ import time
 from typing import TYPE_CHECKING
 
 from trying.copies import older
-from trying.judging import judge
+from kit.judging import judge
 
 if TYPE_CHECKING:
     from trying.booted import Booted

@@ -4,7 +4,7 @@ import pathlib
 
 from making import staging
 from trying import copies
-from trying.judging import judge
+from kit.judging import judge
 from trying.machine import Machine
 
 CITY = "/var/lib/office/city/office.db"

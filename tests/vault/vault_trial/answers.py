@@ -4,7 +4,7 @@ import json
 import pathlib
 import socket
 
-from vault_trial.judging import judge, same
+from kit.judging import judge, same
 from vault_trial.world import World
 
 

@@ -8,7 +8,7 @@ import subprocess
 import time
 from collections.abc import Iterator
 
-from vault_trial.judging import judge
+from kit.judging import judge
 from vault_trial.world import World
 
 RATE = 200

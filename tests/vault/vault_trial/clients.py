@@ -7,7 +7,7 @@ import subprocess
 import sys
 
 from vault_trial.answers import digest
-from vault_trial.judging import judge, same
+from kit.judging import judge, same
 from vault_trial.places import TOP
 from vault_trial.proxy import NAMES, Proxy
 from vault_trial.standin import StandIn

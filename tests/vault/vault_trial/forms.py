@@ -2,7 +2,7 @@
 import pathlib
 import time
 
-from vault_trial.judging import judge, same
+from kit.judging import judge, same
 
 from office_vault import manifest
 

@@ -12,7 +12,7 @@ from collections.abc import Iterator
 
 from vault_trial import forked
 from vault_trial.answers import digest
-from vault_trial.judging import judge, same
+from kit.judging import judge, same
 from vault_trial.standin import StandIn
 from vault_trial.world import World, free_port
 

@@ -5,7 +5,7 @@ import pathlib
 import subprocess
 
 from vault_trial.expected import GRACE
-from vault_trial.judging import judge, same
+from kit.judging import judge, same
 from vault_trial.places import OFFICE
 from vault_trial.standin import StandIn
 from vault_trial.world import World, free_port

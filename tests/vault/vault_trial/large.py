@@ -7,7 +7,7 @@ import sys
 import time
 
 from vault_trial import forked
-from vault_trial.judging import judge, same
+from kit.judging import judge, same
 from vault_trial.places import COMMAND
 from vault_trial.standin import StandIn
 from vault_trial.world import World, free_port

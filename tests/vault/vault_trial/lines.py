@@ -9,7 +9,7 @@ import signal
 import threading
 
 from vault_trial import forked
-from vault_trial.judging import judge
+from kit.judging import judge
 from vault_trial.standin import StandIn
 from vault_trial.world import free_port
 

@@ -6,7 +6,7 @@ import time
 
 from vault_trial import proxy
 from vault_trial.answers import digest
-from vault_trial.judging import judge, same
+from kit.judging import judge, same
 from vault_trial.proxy import Proxy
 from vault_trial.standin import StandIn
 from vault_trial.world import World, free_port

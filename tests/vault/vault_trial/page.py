@@ -9,7 +9,7 @@ import shutil
 import subprocess
 
 from vault_trial.forms import ROWS
-from vault_trial.judging import judge, same
+from kit.judging import judge, same
 from vault_trial.places import TOP
 
 from office_vault import manifest

@@ -8,7 +8,7 @@ from collections.abc import Callable, Iterator
 
 from vault_trial.answers import digest
 from vault_trial.forked import names
-from vault_trial.judging import judge
+from kit.judging import judge
 from vault_trial.standin import StandIn
 from vault_trial.world import free_port
 

@@ -4,7 +4,7 @@ import pathlib
 import subprocess
 
 from vault_trial.copying import Copies
-from vault_trial.judging import judge, same
+from kit.judging import judge, same
 from vault_trial.places import SCRIPTS
 from vault_trial.world import World
 

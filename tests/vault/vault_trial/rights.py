@@ -1,7 +1,7 @@
 """Who may read a file: who may read the content of the record, as the office says each time, and nobody else."""
 import pathlib
 
-from vault_trial.judging import judge, same
+from kit.judging import judge, same
 from vault_trial.standin import StandIn
 from vault_trial.world import World, free_port
 

@@ -4,7 +4,7 @@ import pathlib
 import sqlite3
 
 from vault_trial.expected import GRACE
-from vault_trial.judging import judge, same
+from kit.judging import judge, same
 from vault_trial.standin import StandIn
 from vault_trial.world import World, free_port
 

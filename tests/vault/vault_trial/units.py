@@ -9,7 +9,7 @@ import subprocess
 import small_debian
 from booting import Boot
 from kit.units import lay_out
-from vault_trial.judging import judge, same
+from kit.judging import judge, same
 from vault_trial.places import OFFICE, SCRIPTS, VAULT
 
 CITY = "/var/lib/office-vaults/city"

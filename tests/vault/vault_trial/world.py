@@ -1,7 +1,6 @@
 """One office with its vault, its service, its copies and a second vault, and the model of it all."""
 import hashlib
 import http.client
-import itertools
 import os
 import pathlib
 import random
@@ -11,6 +10,7 @@ import socket
 import subprocess
 import time
 
+from kit.ports import free_port
 from vault_trial import forked
 from vault_trial.expected import GRACE, Expected
 from vault_trial.office import Office
@@ -18,21 +18,6 @@ from vault_trial.places import COMMAND, HERE, OFFICE, SCRIPTS
 from vault_trial.standin import StandIn
 
 from office_vault.manifest import Named, text_of
-
-PORTS = itertools.cycle(range(21500, 21560))
-
-
-def free_port() -> int:
-    """Returns a port of this trial's range that nobody listens at."""
-    for port in PORTS:
-        with socket.socket() as it:
-            it.setsockopt(socket.SOL_SOCKET, socket.SO_REUSEADDR, 1)
-            try:
-                it.bind(("127.0.0.1", port))
-                return port
-            except OSError:
-                continue
-    raise AssertionError
 
 
 class World:
