@@ -10,7 +10,7 @@ GIVEN: set[int] = set()
 
 
 def free_port() -> int:
-    """Returns a port that is free and was not given before. Another process may take it: `kit.offices` tries again then."""
+    """Returns a port that is free and was not given before. Another process may take it: `kit.office` tries again then."""
     for at in range(COUNT):
         port = FIRST + (os.getpid() * 37 + at) % COUNT
         if port not in GIVEN and is_free(port):

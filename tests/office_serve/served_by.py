@@ -8,7 +8,7 @@ import subprocess
 import time
 
 from service_scripts.place import OFFICE, SECONDS, SERVICE
-from kit.offices import start
+from kit.office import start
 from kit.ports import free_port
 from kit.waiting import comes
 

@@ -8,7 +8,7 @@ import re
 import subprocess
 
 from kit.commands import OFFICE, SECONDS, TOP
-from kit.offices import Office
+from kit.office import Office
 from kit.waiting import comes
 
 HERE = TOP / "tests"

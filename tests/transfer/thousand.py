@@ -15,7 +15,7 @@ import reader
 from bags import ODD, rows, sums_agree
 from fake import digest
 from kit.judging import judge
-from kit.offices import Office
+from kit.office import Office
 from place import OFFICE, SERVICE, TOOLS, TOP, challenge_of, files_in, run
 
 COUNT = 1000

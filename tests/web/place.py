@@ -9,13 +9,11 @@ import http.client
 import json
 import os
 import pathlib
-import re
 import shutil
-import socket
 import ssl
 import subprocess
-import time
 
+from kit.nginx import begin, end, line_of, make_key, without_ipv6
 from kit.ports import free_port
 
 TOP = pathlib.Path(__file__).resolve().parent.parent.parent
@@ -100,17 +98,11 @@ class Proxy:
         self.folder, self.port = pathlib.Path(folder), free_port()
         self.address = f"https://localhost:{self.port}"
         self.page = f"{self.address}/web/"
-        self.keys()
+        make_key(self.folder)
+        (self.folder / "office.htpasswd").write_text(line_of(NAME, PASSWORD))
         self.conf = self.folder / conf
         self.conf.write_text(MAIN.format(folder=self.folder, site=self.configured((NGINX / conf).read_text(), office_port)))
         self.process = None
-
-    def keys(self):
-        subprocess.run(["openssl", "req", "-x509", "-newkey", "ec", "-pkeyopt", "ec_paramgen_curve:prime256v1", "-nodes", "-days", "2", "-subj", "/CN=localhost", "-addext",
-                        "subjectAltName=DNS:localhost", "-keyout", self.folder / "office.key", "-out", self.folder / "office.crt"],
-                       check=True, stderr=subprocess.DEVNULL)
-        line = subprocess.run(["openssl", "passwd", "-6", PASSWORD], check=True, stdout=subprocess.PIPE).stdout.decode()
-        (self.folder / "office.htpasswd").write_text(f"{NAME}:{line}")
 
     def configured(self, text, office_port):
         self.web = self.folder / "web"
@@ -120,7 +112,7 @@ class Proxy:
         (self.folder / "vault.conf").write_text(replaced((NGINX / "vault.conf").read_text(), "/run/office-vault/", f"{self.folder}/vaults/"))
         for name in ("http.conf", "reject.conf", "server.conf", "actors.conf", "pam.conf"):
             text = replaced(text, f"include /etc/nginx/office/{name};", (NGINX / name).read_text())
-        text = re.sub(r"\n *listen \[::\][^\n]*", "", text)
+        text = without_ipv6(text)
         for old, new in [
             # what the page does with a day that has not come is tried too
             ("js_var $days_ahead 1;", "js_var $days_ahead 400000;"),
@@ -142,19 +134,11 @@ class Proxy:
 
     def start(self):
         subprocess.run(["nginx", "-q", "-t", "-c", self.conf], check=True)
-        self.process = subprocess.Popen(["nginx", "-c", self.conf], stdin=subprocess.DEVNULL)
-        for _ in range(600):
-            try:
-                with socket.create_connection(("127.0.0.1", self.port), timeout=1):
-                    return
-            except OSError:
-                time.sleep(0.1)
-        raise SystemExit("nginx does not listen")
+        self.process = begin(self.conf, self.port, self.folder / "start.log")
 
     def stop(self):
         if self.process:
-            self.process.terminate()
-            self.process.wait()
+            end(self.process)
             self.process = None
 
     def ask(self, method, path, body=None, fields=None, named=True):

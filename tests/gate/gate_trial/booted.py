@@ -5,7 +5,7 @@ import shutil
 import subprocess
 
 import small_debian
-from booting import Boot
+from kit.systemd import Booted
 from kit.judging import judge
 from gate_trial.world import OFFICE, TOP
 
@@ -30,24 +30,17 @@ def commands(page: str, heading: str) -> list[str]:
     return [it for it in plain if it and not it.startswith(("$ ", "{")) and "fail2ban" not in it]
 
 
-class Machine:
+class Machine(Booted):
     """A Debian of its own, below a folder."""
 
     def __init__(self, top: pathlib.Path) -> None:
-        self.top, self.boot = top, Boot(top, "--private-network")
+        super().__init__(top)
         small_debian.unpack("gate", top)
         for it in PARTS:
             shutil.copytree(TOP / it, top / SOURCES[1:] / it, symlinks=True,
                             ignore=shutil.ignore_patterns("__pycache__"))
         (top / "usr/local/bin").mkdir(parents=True, exist_ok=True)
         shutil.copy(shutil.which(OFFICE) or OFFICE, top / "usr/local/bin/office")
-
-    def __enter__(self) -> "Machine":
-        self.boot.start()
-        return self
-
-    def __exit__(self, *_: object) -> None:
-        self.boot.stop()
 
     def begin(self, command: str) -> subprocess.Popen[bytes]:
         """Begins a command there, in the folder of the repository's parts."""

@@ -1,78 +1,45 @@
-"""nginx with the configuration of the repository, in a folder of its own and at ports of this trial."""
+"""nginx in front of an office, with its gate or alone, and what is asked there."""
 import base64
 import http.client
 import json
 import pathlib
-import re
 import socket
 import ssl
-import subprocess
-import time
 
-from gate_trial.world import TOKEN, TOP, end, free_port, lead, parted, said
+from gate_trial.world import LEADERS, STARTED, TOKEN, TOP, free_port, parted, said
+from kit.nginx import Sites, line_of
 
-NGINX = TOP / "service/nginx"
-MODULE = "/usr/lib/nginx/modules/ngx_http_js_module.so"
 PASSWORD = "one for all"
 
 
-class Proxy:
+class Proxy(Sites):
     """nginx in front of an office: with its gate (gated.conf), or alone (offices.conf)."""
 
     def __init__(self, folder: pathlib.Path, site: str, names: list[str], gate: pathlib.Path, office: int,
                  catalogue: pathlib.Path, more: dict[str, str] | None = None) -> None:
-        folder.mkdir(parents=True)
-        (folder / "log").mkdir()
-        (folder / "temp").mkdir()
-        self.folder, self.port = folder, free_port()
-        self.here = f"https://localhost:{self.port}"
-        self.places = {"/etc/nginx/office": str(folder), "/var/log/nginx": f"{folder}/log",
-                       "/var/log/office": f"{folder}/log",
-                       "/run/office-gate/city/socket": str(gate), "127.0.0.1:8081": f"127.0.0.1:{office}",
-                       "/var/lib/office-catalogues/city/now": str(catalogue),
-                       "listen 80;": f"listen 127.0.0.1:{free_port()};",
-                       "listen 443": f"listen 127.0.0.1:{self.port}", "/usr/local/share/office/web": str(TOP / "web"),
-                       "|https://$server_name": f"|https://$server_name:{self.port}"} | (more or {})
-        for it in [*NGINX.glob("*.conf"), *NGINX.glob("*.js")]:
-            self.put(it.name, it.read_text())
+        port = free_port()
+        self.here = f"https://localhost:{port}"
+        places = {"/etc/nginx/office": str(folder), "/var/log/nginx": f"{folder}/log",
+                  "/var/log/office": f"{folder}/log",
+                  "/run/office-gate/city/socket": str(gate), "127.0.0.1:8081": f"127.0.0.1:{office}",
+                  "/var/lib/office-catalogues/city/now": str(catalogue),
+                  "listen 80;": f"listen 127.0.0.1:{free_port()};",
+                  "listen 443": f"listen 127.0.0.1:{port}", "/usr/local/share/office/web": str(TOP / "web"),
+                  "|https://$server_name": f"|https://$server_name:{port}"} | (more or {})
+        super().__init__(folder, port, places)
         self.put("gate_tokens.conf", f'"~^/city/" {TOKEN};\n')
         self.put("vaults.conf", '"/city/" city;\n')
         self.put("actors.conf", "".join(f'"{it} /city/" 1;\n' for it in names))
         # SHA-1, so that the time of a password's check is not what is measured
-        done = subprocess.run(["openssl", "passwd", "-1", PASSWORD], check=True, capture_output=True, text=True)
-        self.put("office.htpasswd", "".join(f"{it}:{done.stdout}" for it in names))
-        self.put("monitor.htpasswd", f"monitor:{done.stdout}")
-        subprocess.run(["openssl", "req", "-x509", "-newkey", "ec", "-pkeyopt", "ec_paramgen_curve:P-256", "-nodes",
-                        "-days",
-                        "2", "-subj", "/CN=localhost", "-addext", "subjectAltName=DNS:localhost", "-keyout",
-                        folder / "office.key", "-out", folder / "office.crt"], check=True, capture_output=True)
-        temp = "".join(f"{it}_temp_path {folder}/temp/{it};\n" for it in ("client_body", "proxy", "fastcgi", "uwsgi",
-                                                                          "scgi"))
-        self.put("nginx.conf", f"daemon off; user root; pid {folder}/pid; load_module {MODULE};\nevents {{}}\n"
-                               f"http {{\n{temp}include {folder}/{site};\n}}\n")
-        self.process: subprocess.Popen | None = None
-
-    def put(self, name: str, text: str) -> None:
-        # IPv4 alone, at ports of the trial
-        text = re.sub(r"\n *listen \[::\][^\n]*", "", text)
-        for old, new in self.places.items():
-            text = text.replace(old, new)
-        (self.folder / name).write_text(text)
+        self.put("office.htpasswd", "".join(line_of(it, PASSWORD, "-1") for it in names))
+        self.put("monitor.htpasswd", line_of("monitor", PASSWORD, "-1"))
+        self.configure(f"include {folder}/{site};")
 
     def start(self) -> None:
-        self.process = lead(["nginx", "-c", str(self.folder / "nginx.conf"), "-e", str(self.folder / "log/start.log")])
-        for _ in range(200):
-            try:
-                socket.create_connection(("127.0.0.1", self.port), 1).close()
-                return
-            except OSError:
-                time.sleep(0.05)
-        raise AssertionError((self.folder / "log/start.log").read_text())
-
-    def stop(self) -> None:
-        if self.process:
-            end(self.process)
-            self.process = None
+        """Starts nginx, which ends with the part."""
+        super().start()
+        STARTED.append(self.process)
+        LEADERS.add(self.process.pid)
 
     # ---- requests
 

@@ -1,5 +1,4 @@
 """An office and a gate for the trial: the real program, served, and the gate at a socket of its own."""
-import contextlib
 import http.client
 import json
 import os
@@ -11,6 +10,7 @@ import time
 from collections.abc import Callable
 from typing import Any
 
+from kit.nginx import end
 from kit.ports import free_port
 
 TOP = pathlib.Path(__file__).resolve().parents[3]
@@ -32,26 +32,6 @@ BEGAN = [time.time()]
 """when the part began"""
 WAIT_SECONDS = 60
 """what a machine under load takes at most for what takes a moment"""
-END_SECONDS = 10
-"""what a program takes at most to end by SIGTERM"""
-
-
-def lead(words: list[str]) -> subprocess.Popen[Any]:
-    """Starts a program with a process group of its own, which ends with it."""
-    process = subprocess.Popen(words, start_new_session=True)
-    STARTED.append(process)
-    LEADERS.add(process.pid)
-    return process
-
-
-def end(process: subprocess.Popen[Any]) -> None:
-    """Ends a program by SIGTERM, as nginx needs it to end its workers, and by SIGKILL what then is left of its group."""
-    process.terminate()
-    with contextlib.suppress(subprocess.TimeoutExpired):
-        process.wait(END_SECONDS)
-    with contextlib.suppress(ProcessLookupError):
-        os.killpg(process.pid, signal.SIGKILL)
-    process.wait()
 
 
 def end_all() -> None:

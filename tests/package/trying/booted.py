@@ -1,7 +1,7 @@
 """The package on a Debian that systemd runs, booted by systemd-nspawn: the units at work, from enabling to purging."""
 import pathlib
 
-from booting import Boot
+from kit import systemd
 from trying.apart import judge_apart
 from kit.judging import judge
 from trying.kept import judge_kept, put
@@ -15,18 +15,11 @@ ASKED = ("for n in $(seq 150); do (exec 3<>/dev/tcp/127.0.0.1/8081) 2>/dev/null 
 PID = "systemctl show -p MainPID --value office@city"
 
 
-class Booted:
+class Booted(systemd.Booted):
     """A machine that runs. Used by `with`, it is shut down at the end."""
 
     def __init__(self, machine: Machine) -> None:
-        self.boot = Boot(machine.top, "--private-network")
-
-    def __enter__(self) -> "Booted":
-        self.boot.start()
-        return self
-
-    def __exit__(self, *_: object) -> None:
-        self.boot.stop()
+        super().__init__(machine.top)
 
     def run(self, command: str) -> Done:
         return run(list(self.boot.enter(command)))

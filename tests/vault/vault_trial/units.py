@@ -7,7 +7,7 @@ import shutil
 import subprocess
 
 import small_debian
-from booting import Boot
+from kit.systemd import Booted
 from kit.units import lay_out
 from kit.judging import judge, same
 from vault_trial.places import OFFICE, SCRIPTS, VAULT
@@ -18,11 +18,11 @@ SOCKET = "/run/office-vault/city/socket"
 DATA = b"a large file " * 100_000
 
 
-class Machine:
+class Machine(Booted):
     """A Debian of its own, below a folder."""
 
     def __init__(self, top: pathlib.Path) -> None:
-        self.top, self.boot = top, Boot(top, "--private-network")
+        super().__init__(top)
         small_debian.unpack("vault", top)
         self.install()
 
@@ -41,13 +41,6 @@ class Machine:
         (self.top / "etc/office").mkdir(exist_ok=True)
         shutil.copy(SCRIPTS / "city.conf", self.top / "etc/office/city.conf")
         (self.top / "root/file").write_bytes(DATA)
-
-    def __enter__(self) -> "Machine":
-        self.boot.start()
-        return self
-
-    def __exit__(self, *_: object) -> None:
-        self.boot.stop()
 
     def run(self, command: str) -> tuple[int, str]:
         """Runs a command there; returns its status and what it printed."""

@@ -9,6 +9,7 @@ import signal
 import subprocess
 import tempfile
 import time
+from typing import Self
 
 from skips import Skipped
 
@@ -111,3 +112,17 @@ class Boot:
                 break
             time.sleep(0.1)
         self.groups = []
+
+
+class Booted:
+    """A Debian in a folder, with a network of its own, which runs until the end of a `with`."""
+
+    def __init__(self, top: pathlib.Path) -> None:
+        self.top, self.boot = top, Boot(top, "--private-network")
+
+    def __enter__(self) -> Self:
+        self.boot.start()
+        return self
+
+    def __exit__(self, *_: object) -> None:
+        self.boot.stop()
