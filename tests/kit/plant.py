@@ -14,7 +14,7 @@ from collections.abc import Iterable, Iterator, Sequence
 from typing import NamedTuple
 
 TOP = pathlib.Path(__file__).resolve().parents[2]
-LEFT_OUT = shutil.ignore_patterns("__pycache__", "found")
+LEFT_OUT = shutil.ignore_patterns("__pycache__")
 
 
 class Unreadable(Exception):
