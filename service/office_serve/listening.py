@@ -2,17 +2,15 @@
 
 At the port each request is served, at the socket of the file system readings alone.
 """
-import array
 import grp
 import os
 import pathlib
 import socket
 import sys
 
-from office_serve.errors import Refused
+from office_common.errors import IMPOSSIBLE, USAGE, Refused
+from office_common.notify import notify, passed
 
-FIRST = 3
-"""the first descriptor that systemd passes"""
 BACKLOG = 4096
 """so many clients may wait"""
 READERS = "office-read"
@@ -30,18 +28,6 @@ def place_of(listener: socket.socket) -> Place:
     return str(name) if listener.family == socket.AF_UNIX else int(name[1])
 
 
-def tell(text: str, descriptor: int | None = None) -> bool:
-    """Tells systemd something, with a descriptor if it is to keep one. Returns whether there is a systemd."""
-    path = os.environ.get("NOTIFY_SOCKET", "")
-    if not path:
-        return False
-    more = [] if descriptor is None else [
-        (socket.SOL_SOCKET, socket.SCM_RIGHTS, array.array("i", [descriptor]))]
-    with socket.socket(socket.AF_UNIX, socket.SOCK_DGRAM) as link:
-        link.sendmsg([text.encode()], more, 0, "\0" + path[1:] if path[0] == "@" else path)
-    return True
-
-
 def bound(place: Place) -> socket.socket:
     """Binds a port or a path; a path that somebody listens at is taken."""
     if isinstance(place, str):
@@ -49,7 +35,7 @@ def bound(place: Place) -> socket.socket:
     try:
         return socket.create_server(("127.0.0.1", place), backlog=BACKLOG)
     except OSError as error:
-        raise Refused(3, f"port {place} of 127.0.0.1 cannot be bound: {error.strerror}") from error
+        raise Refused(IMPOSSIBLE, f"port {place} of 127.0.0.1 cannot be bound: {error.strerror}") from error
 
 
 def is_taken(path: pathlib.Path) -> bool:
@@ -61,7 +47,7 @@ def bound_path(path: pathlib.Path) -> socket.socket:
     """Binds a socket of the file system, which the users of one group may reach."""
     try:
         if is_taken(path):
-            raise Refused(3, f"another process listens at {path}")
+            raise Refused(IMPOSSIBLE, f"another process listens at {path}")
         before = os.umask(0o022)
         path.parent.mkdir(parents=True, exist_ok=True)
         path.unlink(missing_ok=True)
@@ -71,7 +57,7 @@ def bound_path(path: pathlib.Path) -> socket.socket:
         os.umask(before)
         listener.listen(BACKLOG)
     except OSError as error:
-        raise Refused(3, f"{path} cannot be bound: {error.strerror}") from error
+        raise Refused(IMPOSSIBLE, f"{path} cannot be bound: {error.strerror}") from error
     lend(path)
     return listener
 
@@ -96,26 +82,14 @@ def keep(places: list[Place]) -> None:
         except Refused:
             continue
         with listener:
-            if not tell(f"FDSTORE=1\nFDPOLL=0\nFDNAME={name_of(place)}", listener.fileno()):
-                raise Refused(2, "--listen is for a unit of systemd")
-
-
-def passed() -> dict[Place, socket.socket]:
-    """Returns the listening sockets that systemd passes, by their places."""
-    if os.environ.pop("LISTEN_PID", "") != str(os.getpid()):
-        return {}
-    listeners: dict[Place, socket.socket] = {}
-    for at in range(int(os.environ.pop("LISTEN_FDS", "0"))):
-        os.set_inheritable(FIRST + at, False)
-        one = socket.socket(fileno=FIRST + at)
-        listeners[place_of(one)] = one
-    return listeners
+            if not notify(f"FDSTORE=1\nFDPOLL=0\nFDNAME={name_of(place)}", listener.fileno()):
+                raise Refused(USAGE, "--listen is for a unit of systemd")
 
 
 def listeners(places: list[Place]) -> list[socket.socket]:
     """Returns the sockets of the places: those of systemd, or else new ones."""
-    kept = passed()
+    kept = {place_of(listener): listener for listener in passed()}
     for other in kept.keys() - set(places):
         kept.pop(other).close()
-        tell(f"FDSTOREREMOVE=1\nFDNAME={name_of(other)}")
+        notify(f"FDSTOREREMOVE=1\nFDNAME={name_of(other)}")
     return [kept.get(it) or bound(it) for it in places]

@@ -1,45 +1,37 @@
 """The process of `office serve`: its start, a connection to it, its end."""
 import os
-import pathlib
 import select
 import socket
 import subprocess
 import sys
+from pathlib import Path
 
-from office_serve.errors import Refused
+from office_common import program
+from office_common.errors import IMPOSSIBLE, Refused
+
 from office_serve.stopping import Stop
 from office_serve.streams import error_stream
 from office_serve.watching import Watch
 
-CHILD = str(pathlib.Path(__file__).with_name("child.py"))
 END_SECONDS = 30
 """a program that accepts nothing more closes FILE and ends within this time"""
 
 
-def free_port() -> int:
-    """Finds a port that nobody has. In the unit's own network no other process takes it meanwhile."""
-    with socket.create_server(("127.0.0.1", 0)) as held:
-        return held.getsockname()[1]
-
-
-class Program:
+class Program(program.Server):
     """The office's program over FILE, at a port of its own. It ends with office-serve."""
 
-    def __init__(self, path: str, file: pathlib.Path, count: int) -> None:
+    def __init__(self, path: str, file: Path, count: int) -> None:
+        super().__init__(file)
         self.path = path
-        self.file = file
         self.count = count
         self.left = 0
-        self.port = 0
-        self.process: subprocess.Popen[bytes] | None = None
 
     def start(self, stop: Stop, watch: Watch) -> bool:
         """Opens FILE by a new process. Returns whether it listens; if not, somebody asked to stop meanwhile."""
-        self.port, self.left = free_port(), self.count
-        words = [self.path, "serve", str(self.file), str(self.port), str(self.count)]
+        # in the unit's own network no other process takes the port meanwhile
+        self.port, self.left = program.free_port(), self.count
         errors = error_stream()
-        self.process = subprocess.Popen([sys.executable, "-I", "-S", CHILD, str(os.getpid()), *words],
-                                        stdin=subprocess.DEVNULL, stdout=subprocess.PIPE, stderr=errors)
+        self.process = program.start(self.path, self.args(self.count), stdout=subprocess.PIPE, stderr=errors)
         if errors is not None:
             os.close(errors)
         out = self.process.stdout
@@ -49,22 +41,17 @@ class Program:
             if stop.is_asked():
                 return False
             if watch.is_hung(self.process.pid):
-                self.kill()
-                raise Refused(3, f"the office in {self.file} does not open: it did nothing for {watch.seconds:.0f} "
-                                 "seconds")
-        line = out.readline()
-        out.close()
-        if not line.startswith(b"listening"):
-            raise Refused(3, f"the office in {self.file} does not open: status {self.process.wait()}")
+                self.stop()
+                raise Refused(IMPOSSIBLE, f"the office in {self.file} does not open: it did nothing for "
+                                          f"{watch.seconds:.0f} seconds")
+        if not self.is_listening():
+            raise Refused(IMPOSSIBLE, f"the office in {self.file} does not open: status {self.process.wait()}")
         return True
 
     def pidfd(self) -> int:
         """Returns a descriptor that is readable once the process has ended."""
         assert self.process is not None
         return os.pidfd_open(self.process.pid)
-
-    def has_ended(self) -> bool:
-        return self.process is None or self.process.poll() is not None
 
     def connect(self) -> socket.socket | None:
         """Connects to the program; None if it has ended, and then it got nothing."""
@@ -99,7 +86,7 @@ class Program:
                     elif watch.is_hung(self.process.pid):
                         print(f"<3>office-serve: the program did nothing for {watch.seconds:.0f} seconds when it was "
                               "asked for a record; it is ended, and started again", file=sys.stderr, flush=True)
-                        self.kill()
+                        self.stop()
                         return False
             except OSError:
                 answer = b""
@@ -111,10 +98,4 @@ class Program:
         try:
             self.process.wait(END_SECONDS)
         except subprocess.TimeoutExpired:
-            self.kill()
-
-    def kill(self) -> None:
-        """Ends the process. FILE and its log then have every act that was answered."""
-        if self.process is not None:
-            self.process.kill()
-            self.process.wait()
+            self.stop()

@@ -5,8 +5,10 @@ import socket
 import sys
 import time
 
+from office_common.errors import Refused
+from office_common.notify import notify, ready
+
 from office_serve import files, listening
-from office_serve.errors import Refused
 from office_serve.lingering import Lingering
 from office_serve.passing import Passing, reply
 from office_serve.program import Program
@@ -41,13 +43,13 @@ class Service:
             it.setblocking(False)
         try:
             if self.start():
-                listening.tell("READY=1")
+                ready()
                 print(f"listening 127.0.0.1:{self.places[0]}", flush=True)
                 self.serve()
         finally:
-            self.program.kill()
+            self.program.stop()
             self.lingering.end()
-        listening.tell(f"STOPPING=1\nWATCHDOG_USEC={CLOSING_USEC}")
+        notify(f"STOPPING=1\nWATCHDOG_USEC={CLOSING_USEC}")
         for it in self.listeners:
             it.close()
         files.close_if_open(self.program.path, self.program.file)
@@ -109,7 +111,7 @@ class Service:
         why = passing.run(self.stop, self.watch, self.program.process.pid)
         if why:
             print(f"<3>office-serve: {why}; the program is ended", file=sys.stderr, flush=True)
-            self.program.kill()
+            self.program.stop()
         passing.finish()
         self.lingering.add(client)
         self.settle(passing.status())

@@ -4,7 +4,7 @@ import os
 import pathlib
 import time
 
-from office_serve import listening
+from office_common.notify import alive
 
 STEPS = 6
 """how often the program is looked at before it counts as hung"""
@@ -58,7 +58,7 @@ class Watch:
         if now - self.looked < self.step:
             return False
         self.looked = now
-        listening.tell("WATCHDOG=1")
+        alive()
         return True
 
     def is_hung(self, pid: int) -> bool:

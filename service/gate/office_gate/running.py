@@ -8,7 +8,7 @@ import sqlite3
 import time
 from pathlib import Path
 
-from office_serve.listening import FIRST, tell
+from office_common.notify import FIRST, notify
 
 from office_gate import starting
 from office_gate.errors import Answered, Refused, say
@@ -43,7 +43,7 @@ async def watch(gate: Gate) -> None:
     seconds = int(os.environ.get("WATCHDOG_USEC", "0")) / 2_000_000
     while seconds:
         await gate.journal.in_thread(time.monotonic)
-        await asyncio.to_thread(tell, "WATCHDOG=1")
+        await asyncio.to_thread(notify, "WATCHDOG=1")
         await asyncio.sleep(seconds)
 
 
@@ -93,11 +93,11 @@ async def serve(gate: Gate, at: socket.socket) -> None:
     def reload() -> None:
         tasks.append(asyncio.ensure_future(gate.reload()))
     loop.add_signal_handler(signal.SIGHUP, reload)
-    tell("READY=1")
+    notify("READY=1")
     await gate.journal.print_head(is_asked=True)
     print("listening", flush=True)
     await stop.wait()
-    tell("STOPPING=1")
+    notify("STOPPING=1")
     await closed(server, at)
     await drained(front)
     gate.index.end()
