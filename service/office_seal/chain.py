@@ -8,7 +8,7 @@ import pathlib
 import re
 from dataclasses import dataclass
 
-from office_seal.errors import WRONG, Refused
+from office_common.errors import WRONG, Refused
 
 FIRST = "0" * 64
 FORM = re.compile(r"SEAL ([1-9][0-9]*)\nOFFICE ([A-Za-z0-9._-]+)\nCERTIFICATE ([1-9][0-9]*)\nSHA256 ([0-9a-f]{64})\n"

@@ -1,14 +1,12 @@
 """Gets the certificates of an office, one after another, and keeps each as a file beside the office."""
 import hashlib
-import http.client
 import pathlib
 import re
 import time
 
-from office_serve.links import link
-
-from office_seal import durable
-from office_seal.errors import IMPOSSIBLE, WRONG, Refused
+from office_common import files
+from office_common.client import Client
+from office_common.errors import IMPOSSIBLE, WRONG, NoAnswer, Refused
 
 SECONDS = 300
 DAY = 86_400
@@ -26,15 +24,11 @@ def kept(folder: pathlib.Path) -> dict[int, pathlib.Path]:
 
 def asked(place: str, number: int) -> bytes | None:
     """Asks the office for a certificate; None if it has none of this number."""
-    conn = link(place, SECONDS)
     try:
-        conn.request("GET", f"/certificates/{number}")
-        answer = conn.getresponse()
-        body = answer.read()
-    except (OSError, http.client.HTTPException) as why:
+        answer = Client(place, SECONDS).ask("GET", f"/certificates/{number}")
+    except NoAnswer as why:
         raise Refused(IMPOSSIBLE, f"the office at {place} does not answer: {why}") from why
-    finally:
-        conn.close()
+    body = answer.body
     if answer.status == 404 and body == b'{"error":"certificate"}':
         return None
     if answer.status != 200:
@@ -51,7 +45,7 @@ def fetch(place: str, folder: pathlib.Path, is_restored: bool) -> int:
     The office must still have that one with the same bytes. After a restore, and only with the word for it, all are
     compared, and those that the office has no more are taken out: their seals keep them.
     """
-    with durable.locked(folder):
+    with files.locked(folder):
         there = kept(folder)
         last = max(there, default=0)
         if last and not is_restored and asked(place, last) != there[last].read_bytes():
@@ -60,12 +54,12 @@ def fetch(place: str, folder: pathlib.Path, is_restored: bool) -> int:
         number, new = (0 if is_restored else last) + 1, 0
         while (text := asked(place, number)) is not None:
             if number not in there or there[number].read_bytes() != text:
-                durable.write(folder / f"certificate-{number}.txt", text)
+                files.write(folder / f"certificate-{number}.txt", text)
                 new += 1
             number += 1
         for beyond in (it for it in there if it >= number):
             there[beyond].unlink()
-        durable.sync(folder)
+        files.sync(folder)
         return new
 
 

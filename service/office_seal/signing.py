@@ -6,9 +6,11 @@ import subprocess
 import time
 from dataclasses import dataclass
 
-from office_seal import chain, durable, fetching
+from office_common import files
+from office_common.errors import IMPOSSIBLE, USAGE, WRONG, Refused
+
+from office_seal import chain, fetching
 from office_seal.chain import Seal
-from office_seal.errors import IMPOSSIBLE, LACKING, WRONG, Refused
 
 # what ssh-keygen writes into a signature, so that it counts for nothing else
 SPACE = "office-seal"
@@ -62,7 +64,7 @@ class Sealer:
         there = chain.read(self.seals, self.office)
         if not self.key.is_file() or self.key.read_bytes().strip() == LOST:
             lost = f"the key is lost, and nothing follows seal {there[-1].number}" if there else "there is no key"
-            raise Refused(LACKING, f"{lost}: EVIDENCE.md, Keys")
+            raise Refused(USAGE, f"{lost}: EVIDENCE.md, Keys")
         return there
 
     def moment(self, there: list[Seal]) -> str:
@@ -80,22 +82,22 @@ class Sealer:
         folder = self.seals / NEW
         shutil.rmtree(folder, ignore_errors=True)
         folder.mkdir()
-        durable.write(folder / f"certificate-{number}.txt", body)
+        files.write(folder / f"certificate-{number}.txt", body)
         before = there[-1].own if there else chain.FIRST
         text = chain.text(at, self.office, number, chain.digest(body), before, moment, why)
-        durable.write(folder / "seal.txt", text)
+        files.write(folder / "seal.txt", text)
         tool("ssh-keygen", "-q", "-Y", "sign", "-f", str(self.key), "-n", SPACE, str(folder / "seal.txt"))
         # read back as ssh-keygen wrote it, and then on the disk
-        durable.write(folder / "seal.txt.sig", (folder / "seal.txt.sig").read_bytes())
+        files.write(folder / "seal.txt.sig", (folder / "seal.txt.sig").read_bytes())
         done = self.seals / f"{at:06}"
         os.rename(folder, done)
-        durable.sync(self.seals)
+        files.sync(self.seals)
         there.append(Seal(done, at, self.office, number, chain.digest(body), before, moment, chain.digest(text)))
 
 
 def sign(certificates: pathlib.Path, sealer: Sealer, is_restored: bool) -> int:
     """Seals each certificate that has no seal: how many. A second text of one number needs the word for a restore."""
-    with durable.locked(sealer.seals):
+    with files.locked(sealer.seals):
         there, new = sealer.chain(), 0
         sealed: dict[int, set[str]] = {}
         for it in there:
@@ -117,7 +119,7 @@ def sign_anew(certificates: pathlib.Path, sealer: Sealer, withdrawn: pathlib.Pat
 
     A text that is in the seals alone is not signed again: whoever has such a key may have put it there.
     """
-    with durable.locked(sealer.seals):
+    with files.locked(sealer.seals):
         there, gone, new = sealer.chain(), keys_in(withdrawn), 0
         good = {(it.certificate, it.digest) for it in there if signer(it) not in gone}
         sealed = {(it.certificate, it.digest) for it in there}

@@ -6,8 +6,10 @@ import urllib.error
 import urllib.request
 from dataclasses import dataclass
 
-from office_seal import chain, durable
-from office_seal.errors import IMPOSSIBLE, LACKING, Refused
+from office_common import files
+from office_common.errors import IMPOSSIBLE, USAGE, Refused
+
+from office_seal import chain
 from office_seal.signing import tool
 
 SECONDS = 60
@@ -24,18 +26,18 @@ class Authority:
 
 def stamp(seals: pathlib.Path, office: str, authority: Authority) -> int:
     """Stamps each signature that has no stamp: how many. One that the authority refuses stays for the next time."""
-    with durable.locked(seals):
+    with files.locked(seals):
         new = 0
         for seal in chain.read(seals, office):
             signature, stamped = seal.folder / "seal.txt.sig", seal.folder / "seal.txt.tsr"
             if stamped.exists():
                 continue
             if authority.certificates is None or not authority.certificates.is_file():
-                raise Refused(LACKING, f"nothing is stamped: STAMP_CA names no file ({authority.certificates}); it must be "
+                raise Refused(USAGE, f"nothing is stamped: STAMP_CA names no file ({authority.certificates}); it must be "
                                        "the authority's certificate, by which each stamp is verified. Seals are made "
                                        "without a stamp meanwhile (EVIDENCE.md, A time-stamping authority)")
             query = tool("openssl", "ts", "-query", "-data", str(signature), "-sha256", "-cert")
-            durable.write(stamped, answered(authority, query))
+            files.write(stamped, answered(authority, query))
             new += 1
         return new
 
