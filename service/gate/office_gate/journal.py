@@ -12,7 +12,7 @@ from collections.abc import Callable
 from pathlib import Path
 from typing import Any
 
-from office_vault.durable import sync_folder
+from office_common.files import sync as sync_folder
 
 from office_gate import chain
 from office_gate.chain import Head

@@ -9,7 +9,7 @@ import sqlite3
 import time
 from dataclasses import dataclass
 
-from office_vault import manifest
+from office_common import manifest
 
 from office_gate.access import Person
 from office_gate.body import Json

@@ -10,7 +10,6 @@ The office is asked for the content of the record at each GET, with the lines th
 read the content may read the files, and nobody else.
 """
 import contextlib
-import http.client
 import json
 import re
 import socket
@@ -21,7 +20,12 @@ from collections.abc import Callable
 from dataclasses import dataclass
 from http.server import BaseHTTPRequestHandler
 
-from office_vault import asking, manifest
+from office_common import manifest
+from office_common.client import Client, WrongLength, length_of
+from office_common.errors import Lost, NoAnswer
+from office_common.facts import LONGEST_CONTENT
+
+from office_vault import asking
 from office_vault.objects import NoRoom, Vault, WrongBytes, stamp_at
 from office_vault.uploads import Often, Quota, Uploads
 
@@ -149,16 +153,11 @@ class Handler(BaseHTTPRequestHandler):
 
     def length(self) -> int:
         """Returns how many bytes come, by the rules that the office has for its own bodies."""
-        if self.headers.get("Transfer-Encoding"):
-            raise Answered(501, "coding")
-        lengths = self.headers.get_all("Content-Length") or []
-        if not lengths:
-            raise Answered(411, "length")
-        if len(lengths) > 1 or not re.fullmatch("[0-9]{1,19}", lengths[0]):
-            raise Answered(400, "length")
-        if int(lengths[0]) > self.settings.most:
-            raise Answered(413, "size")
-        return int(lengths[0])
+        lines = self.headers
+        try:
+            return length_of(lines.get_all("Transfer-Encoding", []), lines.get_all("Content-Length", []), self.settings.most)
+        except WrongLength as wrong:
+            raise Answered(wrong.status, wrong.word) from wrong
 
     # ---- out
 
@@ -194,16 +193,17 @@ class Handler(BaseHTTPRequestHandler):
         lines = {name: value for name, value in self.headers.items() if name.lower().startswith("office-")}
         path = f"/records/{number}/content"
         try:
-            status, data = asking.asked(self.settings.office, path, lines, manifest.MOST_BYTES + 1)
-        except TimeoutError as error:
-            raise Answered(504, "time") from error
-        except (OSError, http.client.HTTPException) as error:
-            raise Answered(502, "office") from error
+            office = Client(self.settings.office, asking.SECONDS)
+            reply = office.ask("GET", path, lines=lines, most=LONGEST_CONTENT + 1)
+        except NoAnswer as error:
+            is_late = isinstance(error, Lost) and error.is_late
+            raise (Answered(504, "time") if is_late else Answered(502, "office")) from error
+        status = reply.status
         if status == 404:
             raise Answered(404, "content")
         if status != 200:
             raise Answered(status if status in (401, 403) else 503, "office")
-        return data
+        return reply.body
 
     def send_error(self, code: int, message: str | None = None, explain: str | None = None) -> None:
         """Answers what is not read as a request, or has a method that no path takes."""

@@ -8,9 +8,11 @@ import sys
 from collections.abc import Callable
 from pathlib import Path
 
-from office_vault import checking, manifest, mirroring, service, sweeping
+from office_common import command, manifest, rights
+from office_common.errors import IMPOSSIBLE, Refused
+
+from office_vault import checking, mirroring, service, sweeping
 from office_vault.answering import Settings
-from office_vault.errors import Refused
 from office_vault.objects import NoRoom, Vault
 from office_vault.uploads import Uploads
 
@@ -81,15 +83,8 @@ def line(text: str) -> str:
     return text
 
 
-def number(text: str) -> int:
-    """Reads a count of bytes or seconds."""
-    if not (text.isascii() and text.isdigit()):
-        raise argparse.ArgumentTypeError(f"'{text}' is no number")
-    return int(text)
-
-
 def words() -> argparse.ArgumentParser:
-    parser = argparse.ArgumentParser("office-vault", allow_abbrev=False)
+    parser, number = command.parser("office-vault"), command.number(0)
     kinds = parser.add_subparsers(required=True, metavar="COMMAND")
 
     def kind(what: Callable[[argparse.Namespace], int], *places: str) -> argparse.ArgumentParser:
@@ -129,17 +124,7 @@ def asked(one: argparse.ArgumentParser) -> None:
 
 
 def room(one: argparse.ArgumentParser) -> None:
-    one.add_argument("--reserve", type=number, default=GIGABYTE, help="bytes of the disk that stay free")
-
-
-def become_owner(folder: Path) -> None:
-    """Gives up root's rights for those of the vault's owner, before anything in its folder is touched."""
-    if os.geteuid() != 0 or not folder.is_dir() or (owner := folder.stat().st_uid) == 0:
-        return
-    found = pwd.getpwuid(owner)
-    os.initgroups(found.pw_name, found.pw_gid)
-    os.setresgid(found.pw_gid, found.pw_gid, found.pw_gid)
-    os.setresuid(owner, owner, owner)
+    one.add_argument("--reserve", type=command.number(0), default=GIGABYTE, help="bytes of the disk that stay free")
 
 
 def become_reader(source: Path, target: Path, arguments: list[str]) -> None:
@@ -157,19 +142,21 @@ def become_reader(source: Path, target: Path, arguments: list[str]) -> None:
                           *arguments])
 
 
+def work(it: argparse.Namespace, arguments: list[str]) -> int:
+    """Does what a command asks for, as the owner of the vault."""
+    if it.what is mirror:
+        become_reader(it.vault, it.target, arguments)
+    if it.vault.is_dir():
+        # before anything in its folder is touched
+        rights.become_owner(it.vault.stat())
+    try:
+        status: int = it.what(it)
+    except NoRoom as error:
+        raise Refused(IMPOSSIBLE, "the disk has no room for this object, and the bytes that stay free") from error
+    return status
+
+
 def main(arguments: list[str]) -> int:
     it = words().parse_args(arguments)
     os.umask(0o027)
-    try:
-        if it.what is mirror:
-            become_reader(it.vault, it.target, arguments)
-        become_owner(it.vault)
-        return it.what(it)
-    except Refused as refused:
-        print(f"office-vault: {refused}", file=sys.stderr)
-        return refused.status
-    except NoRoom:
-        print("office-vault: the disk has no room for this object, and the bytes that stay free", file=sys.stderr)
-    except (OSError, sqlite3.Error, ValueError, KeyError) as error:
-        print(f"office-vault: {error}", file=sys.stderr)
-    return 3
+    return command.run("office-vault", lambda: work(it, arguments), (OSError, sqlite3.Error, ValueError, KeyError))

@@ -1,6 +1,5 @@
 """A copy of an office's FILE, which nobody has open: what it says of records, and their contents."""
 import contextlib
-import os
 import shutil
 import sqlite3
 import subprocess
@@ -8,8 +7,9 @@ import tempfile
 from collections.abc import Iterator
 from pathlib import Path
 
-from office_vault.durable import locked
-from office_vault.errors import Refused
+from office_common.errors import IMPOSSIBLE, Refused
+from office_common.files import locked, tables_of
+
 from office_vault.offices import Said
 
 VERSION = 2
@@ -30,19 +30,19 @@ CONTENT = "SELECT bytes FROM records JOIN contents ON record = num WHERE num = ?
 def copy_of(file: Path, work: Path) -> Iterator[Path]:
     """Has office-backup copy FILE with every act that was answered before this call, also while it is served."""
     if not file.is_file():
-        raise Refused(3, f"there is no {file}")
+        raise Refused(IMPOSSIBLE, f"there is no {file}")
     program = shutil.which("office-backup")
     if program is None:
-        raise Refused(3, "there is no program office-backup: install it")
+        raise Refused(IMPOSSIBLE, "there is no program office-backup: install it")
     folder = Path(tempfile.mkdtemp(dir=work))
     # the lock says to another command that this copy is in use
-    with locked(folder, os.O_RDONLY | os.O_DIRECTORY):
+    with locked(folder, waits=True):
         try:
             copy = folder / "copy.db"
             done = subprocess.run([program, str(file), str(copy)], stdin=subprocess.DEVNULL, stdout=subprocess.DEVNULL,
                                   stderr=subprocess.PIPE, text=True, check=False)
             if done.returncode:
-                raise Refused(3, f"{file} was not copied: {done.stderr.strip()}")
+                raise Refused(IMPOSSIBLE, f"{file} was not copied: {done.stderr.strip()}")
             yield copy
         finally:
             shutil.rmtree(folder, ignore_errors=True)
@@ -53,14 +53,14 @@ class Copied:
 
     def __init__(self, copy: Path) -> None:
         try:
-            self.tables = sqlite3.connect(f"{copy.absolute().as_uri()}?immutable=1", uri=True)
+            self.tables = tables_of(copy)
             [(version,)] = self.tables.execute("SELECT version FROM office")
             # entries have no index by record
             self.tables.executescript(ENDS)
         except (sqlite3.Error, ValueError) as error:
-            raise Refused(3, f"{copy} is not read as an office: {error}") from error
+            raise Refused(IMPOSSIBLE, f"{copy} is not read as an office: {error}") from error
         if version != VERSION:
-            raise Refused(3, f"{copy} is an office of version {version}, and not of {VERSION}")
+            raise Refused(IMPOSSIBLE, f"{copy} is an office of version {version}, and not of {VERSION}")
 
     def close(self) -> None:
         self.tables.close()

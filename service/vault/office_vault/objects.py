@@ -11,8 +11,8 @@ from collections.abc import Callable, Iterator
 from dataclasses import dataclass
 from pathlib import Path
 
-from office_vault.durable import locked, sync_folder
-from office_vault.errors import Refused
+from office_common.errors import IMPOSSIBLE, Refused
+from office_common.files import locked, sync
 
 DIGEST = re.compile(r"[0-9a-f]{64}")
 FOLDERS = [f"{it:02x}" for it in range(256)]
@@ -49,7 +49,7 @@ class Vault:
         self.reports = folder / "reports"
         self.work = folder / "work"
         if not self.objects.is_dir():
-            raise Refused(3, f"{folder} is no vault: office-vault make {folder} makes one")
+            raise Refused(IMPOSSIBLE, f"{folder} is no vault: office-vault make {folder} makes one")
 
     @classmethod
     def make(cls, folder: Path) -> "Vault":
@@ -59,7 +59,7 @@ class Vault:
         for name in ("going", "reports", "work"):
             (folder / name).chmod(0o700)
         for name in ("objects", "going", "reports", "work", "."):
-            sync_folder(folder / name)
+            sync(folder / name)
         return cls(folder)
 
     def path(self, digest: str) -> Path:
@@ -70,11 +70,11 @@ class Vault:
 
     def lock(self) -> contextlib.AbstractContextManager[None]:
         """Returns the lock that a PUT and a sweep hold for a moment, as they take room, name, renew or take out."""
-        return locked(self.folder / "lock")
+        return locked(self.folder / "lock", waits=True, is_made=True)
 
     def sweeping(self) -> contextlib.AbstractContextManager[None]:
         """Returns the lock that a sweep holds, and a mirror into this vault: one of them at a time."""
-        return locked(self.folder / "sweep.lock", waits=False)
+        return locked(self.folder / "sweep.lock", is_made=True)
 
     # ---- in
 
@@ -101,7 +101,7 @@ class Vault:
             if error.errno in FULL:
                 raise NoRoom from error
             raise
-        sync_folder(path.parent)
+        sync(path.parent)
         return is_new
 
     def take_room(self, fd: int, length: int, reserve: int) -> None:
@@ -168,8 +168,7 @@ class Vault:
             for it in self.objects.glob("*/.new"):
                 it.unlink()
         for it in self.work.iterdir():
-            with contextlib.suppress(Refused, FileNotFoundError), \
-                    locked(it, os.O_RDONLY | os.O_DIRECTORY, waits=False):
+            with contextlib.suppress(Refused), locked(it):
                 shutil.rmtree(it, ignore_errors=True)
 
 

@@ -9,8 +9,8 @@ from collections.abc import Iterator
 from dataclasses import dataclass
 from typing import Protocol
 
-from office_vault import manifest
-from office_vault.errors import Refused
+from office_common import manifest
+from office_common.errors import IMPOSSIBLE, Refused
 
 
 @dataclass(frozen=True)
@@ -51,7 +51,7 @@ def reading(office: Office, number: int, said: Said) -> manifest.Reading | None:
     if content is None:
         return None
     if len(content) != said.length or hashlib.sha256(content).hexdigest() != said.digest:
-        raise Refused(3, f"the content of record {number} is damaged: restore FILE from a backup")
+        raise Refused(IMPOSSIBLE, f"the content of record {number} is damaged: restore FILE from a backup")
     return manifest.keeps(content)
 
 

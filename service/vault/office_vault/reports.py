@@ -3,7 +3,8 @@ import hashlib
 import time
 from pathlib import Path
 
-from office_vault import durable
+from office_common import files
+
 from office_vault.objects import Vault
 from office_vault.state import State
 
@@ -49,4 +50,4 @@ def write_missing(vault: Vault, state: State) -> None:
     """Writes the report of the last sweep, and those that a kill left unwritten."""
     for number, in state.rows("SELECT number FROM sweeps"):
         if not path(vault, number).exists():
-            durable.write(path(vault, number), text(state, number).encode())
+            files.write(path(vault, number), text(state, number).encode(), 0o640)

@@ -7,7 +7,8 @@ import sqlite3
 from collections.abc import Iterable, Iterator
 from pathlib import Path
 
-from office_vault.manifest import Reading
+from office_common.manifest import Reading
+
 from office_vault.objects import Stamp
 from office_vault.offices import Said
 

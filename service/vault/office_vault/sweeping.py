@@ -10,16 +10,19 @@ import time
 from dataclasses import dataclass, field
 from pathlib import Path
 
+from office_common.errors import IMPOSSIBLE, Refused
+from office_common.files import copies_in, sync
+
 from office_vault import offices, opening, reports
 from office_vault.copies import Copied
-from office_vault.durable import sync_folder
-from office_vault.errors import Refused
 from office_vault.objects import Stamp, Vault
 from office_vault.offices import Office, Said
 from office_vault.state import State
 
 GRACE = 86_400.0
 MANY = 100
+UNSURE = 4
+"""the status of a sweep that is refused until an argument is added"""
 OTHER = "If it was restored from a backup, say --restored"
 now = time.time
 
@@ -44,7 +47,7 @@ def finish(vault: Vault, state: State) -> None:
         state.tables.executemany("INSERT INTO gone VALUES (?, ?, ?, NULL)", rows)
     for it in names:
         (vault.going / it).unlink()
-    sync_folder(vault.going)
+    sync(vault.going)
     with state:
         state.tables.execute("UPDATE gone SET at = ? WHERE at IS NULL", [now()])
     reports.write_missing(vault, state)
@@ -57,7 +60,7 @@ def begin(vault: Vault, state: State) -> float:
     state.listed(vault.stamps())
     began = now()
     if began < state.last()[1]:
-        raise Refused(3, "the clock is before that of the last sweep: set it right, or wait")
+        raise Refused(IMPOSSIBLE, "the clock is before that of the last sweep: set it right, or wait")
     return began
 
 
@@ -65,9 +68,9 @@ def compare(office: Office, number: int, digest: str, has_ended: bool) -> Said:
     """Asks for a record that an earlier sweep read, and refuses another office: a wrong one, or one that went back."""
     said = office.said(number)
     if said is None or said.digest != digest:
-        raise Refused(4, f"record {number} is not the one that an earlier sweep read: is this another office? {OTHER}")
+        raise Refused(UNSURE, f"record {number} is not the one that an earlier sweep read: is this another office? {OTHER}")
     if has_ended and said.is_here:
-        raise Refused(4, f"record {number} had ended, and is here again. {OTHER}")
+        raise Refused(UNSURE, f"record {number} had ended, and is here again. {OTHER}")
     return said
 
 
@@ -92,7 +95,7 @@ def decide(state: State, began: float, rules: Rules) -> list[tuple[str, Stamp]]:
     there, unnamed = state.counts()
     stay = there - len(due)
     if len(due) > max(MANY, stay) and not rules.may_be_many:
-        raise Refused(4, f"{len(due)} objects would go and {stay} would stay. If that is right, say --many")
+        raise Refused(UNSURE, f"{len(due)} objects would go and {stay} would stay. If that is right, say --many")
     counts = (state.last()[0] + 1, began, there - unnamed, unnamed - len(due))
     state.tables.execute("INSERT INTO sweeps VALUES (?, ?, ?, ?)", counts)
     return due
@@ -101,9 +104,9 @@ def decide(state: State, began: float, rules: Rules) -> list[tuple[str, Stamp]]:
 def move(vault: Vault, due: list[tuple[str, Stamp]]) -> None:
     """Moves out of reach what goes; that it is out is on the disk then."""
     folders = {vault.path(it).parent for it, stamp in due if vault.take_out(it, stamp)}
-    sync_folder(vault.going)
+    sync(vault.going)
     for it in sorted(folders):
-        sync_folder(it)
+        sync(it)
 
 
 def end(vault: Vault, state: State, due: list[tuple[str, Stamp]]) -> Path:
@@ -132,9 +135,9 @@ def sweep_copies(vault: Vault, folder: Path, rules: Rules = Rules()) -> Path:
     """Sweeps a vault that is kept beside copies of the office: an object goes that no copy names."""
     with vault.sweeping(), contextlib.closing(State(vault.folder)) as state:
         began = begin(vault, state)
-        copies = opening.copies_in(folder)
+        copies = copies_in(folder)
         if not copies:
-            raise Refused(3, f"there is no copy in {folder}")
+            raise Refused(IMPOSSIBLE, f"there is no copy in {folder}")
         with state:
             for copy in copies:
                 with contextlib.closing(Copied(copy)) as office:

@@ -15,7 +15,7 @@ from gate_trial.acts import Acts
 from kit.judging import judge
 from gate_trial.world import JOURNAL, OFFICE, PYTHON, SOURCES, World
 
-sys.path[:0] = [str(JOURNAL.parent), str(SOURCES / "vault")]
+sys.path[:0] = [str(JOURNAL.parent), str(SOURCES / "vault"), str(SOURCES)]
 
 from office_gate import chain, journal  # noqa: E402
 from office_gate.contents import Contents, noted  # noqa: E402

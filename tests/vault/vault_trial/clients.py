@@ -13,7 +13,7 @@ from vault_trial.proxy import NAMES, Proxy
 from vault_trial.standin import StandIn
 from vault_trial.world import World, free_port
 
-from office_vault import manifest
+from office_common import manifest
 
 ROWS = [("letter.txt", b"A letter."), ("scan.pdf", b"%PDF-" + b"x" * 300_000), ("sub/plan Ü.tif", b"y" * 2_000_000)]
 DAY = "2024-01-02"

@@ -4,7 +4,7 @@ import time
 
 from kit.judging import judge, same
 
-from office_vault import manifest
+from office_common import manifest
 
 GROUP = manifest.Named("a" * 64, 7, "a.pdf").text()
 MOST = manifest.MOST_BYTES // len(GROUP)

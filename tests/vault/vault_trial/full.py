@@ -16,7 +16,7 @@ from kit.judging import judge, same
 from vault_trial.standin import StandIn
 from vault_trial.world import World, free_port
 
-from office_vault.manifest import Named
+from office_common.manifest import Named
 
 MEGABYTE = 1 << 20
 

@@ -10,7 +10,8 @@ from vault_trial.places import OFFICE
 from vault_trial.standin import StandIn
 from vault_trial.world import World, free_port
 
-from office_vault import durable, manifest
+from office_common import files
+from office_common import manifest
 
 
 def other_offices(it: World) -> None:
@@ -77,7 +78,7 @@ def clocks_and_counts(it: World) -> None:
     judge("more than stay do not go at once", done.returncode == 4 and it.there() == before, done.stderr)
     it.sweep()
     judge("unless it is said", len(before - it.there()) >= 120)
-    with durable.locked(it.vault / "sweep.lock"):
+    with files.locked(it.vault / "sweep.lock", is_made=True):
         same("two sweeps at once", it.run(*it.sweep_words()).returncode, 3)
     same("a vault that is none", it.run("sweep", it.folder / "nothing", it.place()).returncode, 3)
     same("no folder of copies", it.run("sweep", it.vault, it.folder, "--copies").returncode, 3)

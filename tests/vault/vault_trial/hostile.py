@@ -9,7 +9,8 @@ from kit.judging import judge, same
 from vault_trial.standin import StandIn
 from vault_trial.world import World, free_port
 
-from office_vault import manifest, objects
+from office_common import manifest
+from office_vault import objects
 
 
 def foreign(it: World) -> None:

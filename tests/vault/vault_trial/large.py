@@ -12,7 +12,7 @@ from vault_trial.places import COMMAND
 from vault_trial.standin import StandIn
 from vault_trial.world import World, free_port
 
-from office_vault.manifest import Named
+from office_common.manifest import Named
 
 SIZE = 4 << 30
 MOST = 100 << 20

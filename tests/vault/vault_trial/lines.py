@@ -13,7 +13,7 @@ from kit.judging import judge
 from vault_trial.standin import StandIn
 from vault_trial.world import free_port
 
-from office_vault import manifest
+from office_common import manifest
 from office_vault.objects import Vault
 
 DATA = {name: name.encode() * 1000 for name in ("named", "shared", "due", "late", "young", "grace", "damaged")}

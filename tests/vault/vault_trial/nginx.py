@@ -11,7 +11,7 @@ from vault_trial.proxy import Proxy
 from vault_trial.standin import StandIn
 from vault_trial.world import World, free_port
 
-from office_vault.manifest import Named
+from office_common.manifest import Named
 
 # TRIAL_MEGABYTES=300 measures more than a machine's noise
 MEGABYTES = int(os.environ.get("TRIAL_MEGABYTES", "30"))

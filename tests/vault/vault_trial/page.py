@@ -12,7 +12,7 @@ from vault_trial.forms import ROWS
 from kit.judging import judge, same
 from vault_trial.places import TOP
 
-from office_vault import manifest
+from office_common import manifest
 
 SCRIPT = """
 import { filesIn, manifestOf, placeOfFile } from "./plain/vault.js";

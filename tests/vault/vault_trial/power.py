@@ -12,7 +12,8 @@ from kit.judging import judge
 from vault_trial.standin import StandIn
 from vault_trial.world import free_port
 
-from office_vault import manifest, state, sweeping
+from office_common import manifest
+from office_vault import state, sweeping
 from office_vault.objects import Vault
 
 NOTED = 3

@@ -35,7 +35,7 @@ class Machine(Booted):
         for it in [*SCRIPTS.glob("office-*"), VAULT / "office-vault"]:
             if it.is_file() and "." not in it.name:
                 shutil.copy(it, places[0])
-        shutil.copytree(SCRIPTS / "office_serve", places[1] / "office_serve")
+        shutil.copytree(SCRIPTS / "office_common", places[1] / "office_common")
         shutil.copytree(VAULT / "office_vault", places[1] / "office_vault")
         lay_out(places[2], SCRIPTS, VAULT)
         (self.top / "etc/office").mkdir(exist_ok=True)

@@ -17,7 +17,7 @@ from vault_trial.office import Office
 from vault_trial.places import COMMAND, HERE, OFFICE, SCRIPTS
 from vault_trial.standin import StandIn
 
-from office_vault.manifest import Named, text_of
+from office_common.manifest import Named, text_of
 
 
 class World:

@@ -7,7 +7,9 @@
 import re
 from dataclasses import dataclass
 
-MOST_BYTES = 262_144
+from office_common.facts import LONGEST_CONTENT
+
+MOST_BYTES = LONGEST_CONTENT
 MOST_PLACE = 1024
 LEAST_BYTES = 64
 """a shorter content names nothing, whatever it is"""
