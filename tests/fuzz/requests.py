@@ -4,13 +4,14 @@ import datetime
 import json
 import re
 
-from checking.act_forms import ACTS, OFFSETS, TRIGGERS
+from checking.act_forms import ACTS
+from office_common.facts import WORDS as FORMS
 from fuzz.rules import FIRST_DAY
 
 LAST_DAY = datetime.date(2999, 12, 31)
 CODES = [f"{kind}{n}" for kind in ("D", "FIN", "H-") for n in range(1, 13)]
 TEXTS = ["Letters of 2022", "registrar", "a \"quoted\" \\ text", "Gebühren", "é" * 100, "x" * 200, "\U0001f5c3 box", "/", "\u2028", "-", "a, b"]
-WORDS = "keep review transfer destroy origin added closed last-addition event days weeks months years".split() + OFFSETS.split()
+WORDS = "keep review transfer destroy origin added closed last-addition event days weeks months years".split() + FORMS["offset"]
 # how often an act is of a kind, where not once
 OFTEN = {"lift-hold": 0.15, "close-aggregation": 0.2, "confirm": 3, "receipt": 2, "event": 2, "hold-on": 2, "open-run": 0.7}
 METHODS = [b"GET", b"POST", b"HEAD", b"PUT", b"DELETE", b"OPTIONS", b"PATCH", b"TRACE", b"CONNECT", b"get", b"Post", b"M-SEARCH", b"X" * 300, b"!"]
@@ -143,8 +144,8 @@ class Maker:
             record = self.begun_by_event(record)
         members = {
             "code": self.code(office.holds if kind == "place-hold" else CODES),
-            "trigger": self.pick(TRIGGERS.split()),
-            "unit": self.pick("days weeks months years".split()), "count": self.count(), "offset": self.pick(OFFSETS.split()),
+            "trigger": self.pick(FORMS["trigger"]),
+            "unit": self.pick("days weeks months years".split()), "count": self.count(), "offset": self.pick(FORMS["offset"]),
             "action": self.action(record) if kind == "confirm" else self.pick(WORDS[:4]), "title": self.text_value(), "ref": self.ref(),
             "class": self.code(office.classes), "schedule": self.code(office.schedules), "parent": self.parent(),
             "aggregation": self.number(office.aggregations), "originated": self.day(), "content": self.content(), "record": record,
@@ -153,7 +154,7 @@ class Maker:
         }
         if kind == "reclassify":
             members["target"] = self.pick([f"aggregation:{self.number(office.aggregations)}", f"record:{record}"])
-        act = {name: members[name] for name in ACTS[kind]}
+        act = {name: members[name] for name in ACTS[kind] if name != "day"}
         for name in ("class", "schedule"):
             if kind in ("add-aggregation", "add-record", "set-record-schedule", "reclassify", "review") and name in act:
                 act[name] = self.or_none(act[name])

@@ -3,18 +3,19 @@ from __future__ import annotations
 
 import datetime
 import hashlib
-import http.client
 import json
 import re
 from collections.abc import Callable
 from dataclasses import dataclass, field
 from typing import BinaryIO
 
+from office_common.client import PART, Reply
+from office_common.errors import NoAnswer
+from office_common.manifest import MOST_PLACE, Named
+
 from asking.office import OverHttp
 
 CONTROLS = re.compile("[\x00-\x1f\x7f-\x9f]")
-MOST_PLACE = 1024
-PART = 1 << 18
 # a file that is put twice is there once, so an answer that was lost does no harm
 TRIES = 3
 GRACE = datetime.timedelta(hours=24)
@@ -45,7 +46,7 @@ def place_of(name: str) -> str:
 
 def manifest(digest: str, length: int, name: str) -> bytes:
     """The text that names a file of the vault."""
-    return f"SHA256 {digest}\nLENGTH {length}\nPLACE {place_of(name)}\n".encode()
+    return Named(digest, length, place_of(name)).text().encode()
 
 
 @dataclass
@@ -60,11 +61,11 @@ class Vault:
     def ask(self) -> None:
         """Finds out whether there is a vault that answers."""
         try:
-            status, body = self.office.request("GET", "/vault/limits")
-        except (OSError, http.client.HTTPException) as why:
+            reply = self.office.request("GET", "/vault/limits")
+        except NoAnswer as why:
             raise NotPut(f"no answer: {why}") from why
-        if status != 200:
-            raise NotPut(why_not(status, body))
+        if reply.status != 200:
+            raise NotPut(why_not(reply))
 
     def put(self, opened: Callable[[], BinaryIO], name: str) -> bytes:
         """Puts a file in, and returns the content of the record that is to name it."""
@@ -73,15 +74,15 @@ class Vault:
             for left in reversed(range(TRIES)):
                 file.seek(0)
                 try:
-                    status, body = self.office.sent("PUT", f"/vault/{digest}", file, length)
-                except (OSError, http.client.HTTPException) as why:
+                    reply = self.office.put(f"/vault/{digest}", file, length)
+                except NoAnswer as why:
                     if left:
                         continue
                     raise NotPut(f"{name} is not in the vault, no answer: {why}") from why
-                if status in (200, 201):
+                if reply.status in (200, 201):
                     break
-                if status not in (502, 503, 504) or not left:
-                    raise NotPut(f"{name} is not in the vault: {why_not(status, body)}")
+                if reply.status not in (502, 503, 504) or not left:
+                    raise NotPut(f"{name} is not in the vault: {why_not(reply)}")
         self.files, self.bytes = self.files + 1, self.bytes + length
         self.first = self.first or datetime.datetime.now()
         return manifest(digest, length, name)
@@ -102,10 +103,10 @@ def digest_of(file: BinaryIO) -> tuple[str, int]:
     return found.hexdigest(), length
 
 
-def why_not(status: int, body: bytes) -> str:
+def why_not(reply: Reply) -> str:
     """Why the vault, or nginx in front of it, refused."""
     try:
-        word = str(json.loads(body)["error"])
+        word = str(json.loads(reply.body)["error"])
     except (ValueError, KeyError, TypeError):
         word = ""
-    return WORDS.get(word, f"the vault answered {status} {body[:200].decode(errors='replace')}".strip())
+    return WORDS.get(word, f"the vault answered {reply.status} {reply.body[:200].decode(errors='replace')}".strip())

@@ -6,16 +6,16 @@ import json
 import re
 from collections.abc import Callable
 
+from office_common import facts
+
 from checking import act_forms
+from checking.act_forms import LARGEST, LONGEST_CODE, LONGEST_TEXT
 
 DAYS = ("day", "originated", "occurred")
 CODES = ("code", "class", "schedule", "hold")
 TEXTS = ("title", "ref", "reason", "by")
 NUMBERS = ("aggregation", "parent", "record")
-WORDS = {"trigger": act_forms.TRIGGERS.split(), "unit": list(act_forms.LONGEST), "offset": act_forms.OFFSETS.split(),
-         "action": act_forms.ACTIONS.split()}
-LARGEST = 4_294_967_295
-LONGEST_TEXT, LONGEST_CODE = 200, 16
+WORDS = {name: facts.WORDS[name] for name in ("trigger", "unit", "offset", "action")}
 CONTROL = re.compile("[\x00-\x1f\x7f-\x9f]")
 
 # what each member must be

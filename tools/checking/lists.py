@@ -7,7 +7,7 @@ import difflib
 import json
 from collections.abc import Callable, Iterable
 from dataclasses import dataclass
-from typing import Optional, cast
+from typing import Optional
 
 from checking import act_forms
 from checking.forms import is_count, shown, why
@@ -125,8 +125,7 @@ def faults_of(act: Act) -> list[str]:
 
 def parts_of(kind: str) -> dict[str, Part]:
     """The members of a kind of act beside `act`, each with what says its refusal."""
-    members = cast(dict[str, Part], act_forms.ACTS[kind])
-    return members if kind == "run-step" else {"day": act_forms.DAY, **members}
+    return act_forms.ACTS[kind]
 
 
 def unknown_why(value: dict[str, object]) -> str:

@@ -2,7 +2,6 @@
 from __future__ import annotations
 
 import hashlib
-import http.client
 import io
 import json
 import re
@@ -10,9 +9,10 @@ from dataclasses import dataclass, field
 
 from asking.office import OverHttp
 from asking.vault import digest_of, manifest
+from office_common.errors import NoAnswer
+from office_common.facts import LONGEST_CONTENT
 from intaking.folders import Unusable
 from intaking.records import PLACE, Record
-from spreadsheet.cells import LONGEST_CONTENT
 
 
 @dataclass
@@ -33,12 +33,12 @@ class Earlier:
 
     def digest(self, number: int) -> str:
         try:
-            status, body = self.office.request("GET", f"/records/{number}")
-            if status == 200:
-                return str(json.loads(body)["digest"])
-        except (OSError, http.client.HTTPException, ValueError, KeyError, TypeError) as why:
+            reply = self.office.request("GET", f"/records/{number}")
+            if reply.status == 200:
+                return str(json.loads(reply.body)["digest"])
+        except (NoAnswer, ValueError, KeyError, TypeError) as why:
             raise Unusable(f"the office gave no record {number}: {why}") from why
-        raise Unusable(f"the office answers {status} for record {number}, which may be a mail that is filed already")
+        raise Unusable(f"the office answers {reply.status} for record {number}, which may be a mail that is filed already")
 
     def take(self, record: Record) -> str | None:
         """Gives a mail the ref that it has already, if it has one, and returns that."""

@@ -12,7 +12,8 @@ from intaking.dated import named_day, picture_day
 from intaking.files import Document
 from intaking.folders import Aggregation, Unusable, home_of
 from intaking.mails import Mail, identity_of, mail_of
-from spreadsheet.cells import CONTROL, LONGEST_CONTENT, LONGEST_TEXT
+from office_common.facts import LONGEST_CONTENT
+from spreadsheet.cells import CONTROL, LONGEST_TEXT
 from spreadsheet.members import Pending
 
 # stands for the place of a mail in the refs that an earlier version gave

@@ -9,8 +9,9 @@ import re
 from dataclasses import dataclass
 
 from asking.vault import Vault
+from office_common.facts import LIMITS, LONGEST_CONTENT
 
-LONGEST_TEXT, LONGEST_CODE, LARGEST_NUMBER, LONGEST_CONTENT = 200, 16, 4_294_967_295, 262_144
+LONGEST_TEXT, LONGEST_CODE, LARGEST_NUMBER = LIMITS["text"], LIMITS["code"], LIMITS["number"]
 # an Excel cell holds no more characters
 LONGEST_CELL = 32_767
 CONTROL = re.compile("[\x00-\x1f\x7f-\x9f]")

@@ -6,7 +6,7 @@ from dataclasses import dataclass
 from pathlib import Path
 from typing import Any
 
-from transferring.failing import Failed
+from office_common.errors import IMPOSSIBLE, Refused
 from transferring.office import Office, json_of
 
 NAME = "aggregations.json"
@@ -38,26 +38,26 @@ def read(place: str | None, office: Office) -> Aggregations | None:
     try:
         return {int(it["number"]): Aggregation(it["ref"], it["title"]) for it in found["aggregations"]}
     except (KeyError, TypeError, ValueError) as why:
-        raise Failed(f"the catalogue's {NAME} has another form: {why!r}") from why
+        raise Refused(IMPOSSIBLE, f"the catalogue's {NAME} has another form: {why!r}") from why
 
 
 def in_address(at: Office, path: str) -> Any:
     try:
         found = at.json(path)
-    except Failed as why:
-        raise Failed(f"there is no catalogue: {why}; name its folder by --catalogue, or go without refs and titles of "
-                     "aggregations by --catalogue none") from why
+    except Refused as why:
+        raise Refused(IMPOSSIBLE, f"there is no catalogue: {why}; name its folder by --catalogue, or go without refs and "
+                                  "titles of aggregations by --catalogue none") from why
     if found is None:
-        raise Failed(f"there is no catalogue at {at.address}/{path}: see --catalogue")
+        raise Refused(IMPOSSIBLE, f"there is no catalogue at {at.address}/{path}: see --catalogue")
     return found
 
 
 def in_folder(folder: Path) -> Any:
     file = next((it for it in (folder / f"{NAME}.gz", folder / NAME) if it.is_file()), None)
     if file is None:
-        raise Failed(f"there is no {NAME} in {folder}: see --catalogue")
+        raise Refused(IMPOSSIBLE, f"there is no {NAME} in {folder}: see --catalogue")
     try:
         data = file.read_bytes()
         return json_of(gzip.decompress(data) if file.suffix == ".gz" else data, str(file))
     except (OSError, EOFError) as why:
-        raise Failed(f"{file} cannot be read: {why}") from why
+        raise Refused(IMPOSSIBLE, f"{file} cannot be read: {why}") from why

@@ -5,7 +5,7 @@ import hashlib
 import re
 from dataclasses import dataclass
 
-from transferring.failing import WRONG, Failed
+from office_common.errors import WRONG, Refused
 
 HEAD = re.compile(r"CERTIFICATE ([1-9][0-9]*)\nDAY ([0-9]{4}-[0-9]{2}-[0-9]{2})\nBY ([^\n]*)\n"
                   r"ENDED [0-9]+\nSENT ([0-9]+)\nSKIPPED [0-9]+\n")
@@ -48,15 +48,15 @@ def read(text: bytes, run: int) -> Certificate:
     """Reads the certificate of this run."""
     body, last = text[:-len("SHA256 \n") - 64], LAST.fullmatch(text[-len("SHA256 \n") - 64:])
     if last is None or hashlib.sha256(body).hexdigest() != last[1].decode():
-        raise Failed(f"the certificate of run {run} is not the one that its last line seals", WRONG)
+        raise Refused(WRONG, f"the certificate of run {run} is not the one that its last line seals")
     try:
         lines = body.decode()
         head = HEAD.match(lines)
         entries = tuple(entry(it) for it in lines.split("\n") if it.startswith("ENTRY\t"))
     except ValueError as why:
-        raise Failed(f"the certificate of run {run} has another form: {why}", WRONG) from why
+        raise Refused(WRONG, f"the certificate of run {run} has another form: {why}") from why
     if head is None or int(head[1]) != run or len([it for it in entries if it.outcome == "sent"]) != int(head[4]):
-        raise Failed(f"what the office answers is no certificate of run {run}", WRONG)
+        raise Refused(WRONG, f"what the office answers is no certificate of run {run}")
     return Certificate(text, run, head[2], head[3], entries)
 
 

@@ -8,7 +8,7 @@ from dataclasses import dataclass, replace
 from pathlib import Path
 
 from transferring import bag, package
-from transferring.failing import USAGE, WRONG, Failed
+from office_common.errors import USAGE, WRONG, Refused
 
 # where the tables are in a bag, and in a package
 PLACES = ("metadata", "metadata/descriptive")
@@ -39,7 +39,7 @@ def read(at: Path) -> list[Sent]:
     """Reads the tables of a bag or package, which must be those that its manifests seal."""
     base = next((at / it for it in PLACES if (at / it / "records.csv").is_file()), None)
     if base is None:
-        raise Failed(f"{at} is no bag or package of tools/transfer: it lacks records.csv", USAGE)
+        raise Refused(USAGE, f"{at} is no bag or package of tools/transfer: it lacks records.csv")
     sealed = sealed_in(at)
     larges: dict[int, list[Part]] = {}
     if (base / "files.csv").is_file():
@@ -49,7 +49,7 @@ def read(at: Path) -> list[Sent]:
                   (part_in(row), *larges.get(int(row["record"]), [])))
              for row in rows(at, base / "records.csv", sealed)]
     if not found:
-        raise Failed(f"{at} has no records", WRONG)
+        raise Refused(WRONG, f"{at} has no records")
     return found
 
 
@@ -74,10 +74,10 @@ def answer_of(at: Path, part: Part, challenge: str) -> str:
                 plain.update(block)
                 answer.update(block)
     except OSError as why:
-        raise Failed(f"{at / part.path} cannot be read: the answer to the challenge is compared with the files: {why}",
-                     WRONG) from why
+        raise Refused(WRONG, f"{at / part.path} cannot be read: the answer to the challenge is compared with the files: "
+                             f"{why}") from why
     if plain.hexdigest() != part.digest:
-        raise Failed(f"{at / part.path} was changed after it was written", WRONG)
+        raise Refused(WRONG, f"{at / part.path} was changed after it was written")
     return answer.hexdigest()
 
 
@@ -86,14 +86,14 @@ def sealed_in(at: Path) -> dict[str, str]:
     try:
         return bag.listed(at, bag.MANIFESTS[1]) if (at / "bagit.txt").is_file() else package.metadata(at)
     except (OSError, ValueError, SyntaxError) as why:
-        raise Failed(f"the manifests of {at} cannot be read: {why}", WRONG) from why
+        raise Refused(WRONG, f"the manifests of {at} cannot be read: {why}") from why
 
 
 def rows(at: Path, file: Path, sealed: dict[str, str]) -> list[dict[str, str]]:
     data = file.read_bytes()
     if hashlib.sha256(data).hexdigest() != sealed.get(file.relative_to(at).as_posix()):
-        raise Failed(f"{file} was changed after it was written", WRONG)
+        raise Refused(WRONG, f"{file} was changed after it was written")
     try:
         return list(csv.DictReader(io.StringIO(data.decode(), newline="")))
     except (UnicodeDecodeError, csv.Error) as why:
-        raise Failed(f"{file} cannot be read: {why}", WRONG) from why
+        raise Refused(WRONG, f"{file} cannot be read: {why}") from why

@@ -12,7 +12,8 @@ from collections.abc import Iterable, Iterator
 from dataclasses import dataclass, field
 from pathlib import Path
 
-from transferring.failing import WRONG, Failed
+from office_common.errors import IMPOSSIBLE, WRONG, Refused
+from office_common.files import locked, sync
 
 
 @dataclass(frozen=True)
@@ -47,19 +48,10 @@ class Folder:
         return self.files[-1]
 
 
-def sync(folder: Path) -> None:
-    """Writes the names in a folder to the disk."""
-    handle = os.open(folder, os.O_RDONLY | os.O_DIRECTORY)
-    try:
-        os.fsync(handle)
-    finally:
-        os.close(handle)
-
-
 def parent_of(target: Path) -> Path:
     parent = target.absolute().parent
     if not parent.is_dir() or not target.name or target.name in (".", ".."):
-        raise Failed(f"there is no folder {parent} for a folder {target.name}")
+        raise Refused(IMPOSSIBLE, f"there is no folder {parent} for a folder {target.name}")
     return parent
 
 
@@ -72,9 +64,8 @@ def new_folder(target: Path) -> Iterator[Folder]:
     parent = parent_of(target)
     start = f".{target.name[:100]}.new-"
     for left in parent.glob(f"{glob_safe(start)}*"):
-        with locked(left) as is_free:
-            if is_free:
-                shutil.rmtree(left)
+        with contextlib.suppress(Refused), locked(left):
+            shutil.rmtree(left)
     path, handle = locked_folder(parent, start)
     try:
         yield Folder(path)
@@ -99,24 +90,6 @@ def glob_safe(text: str) -> str:
     return "".join(f"[{it}]" if it in "[]*?" else it for it in text)
 
 
-@contextlib.contextmanager
-def locked(folder: Path) -> Iterator[bool]:
-    """Holds the lock of a folder; False if somebody else does, or it is gone."""
-    try:
-        handle = os.open(folder, os.O_RDONLY | os.O_DIRECTORY)
-    except OSError:
-        yield False
-        return
-    try:
-        fcntl.flock(handle, fcntl.LOCK_EX | fcntl.LOCK_NB)
-    except OSError:
-        yield False
-    else:
-        yield True
-    finally:
-        os.close(handle)
-
-
 def differing(one: Path, other: Path) -> list[str]:
     """The names of files that are in one of two folders alone, or have other bytes in the other."""
     sides = [{str(it.relative_to(side)) for it in side.rglob("*") if not it.is_dir()} for side in (one, other)]
@@ -129,13 +102,13 @@ def finish(folder: Folder, target: Path) -> bool:
     if target.exists() or target.is_symlink():
         others = differing(folder.path, target) if target.is_dir() else [target.name]
         if others:
-            raise Failed(f"{target} is there, and another: {', '.join(others[:5])} differ; nothing was written", WRONG)
+            raise Refused(WRONG, f"{target} is there, and another: {', '.join(others[:5])} differ; nothing was written")
         return False
     for at, _, _ in os.walk(folder.path):
         sync(Path(at))
     try:
         os.rename(folder.path, target)
     except OSError as why:
-        raise Failed(f"{target} was not put in its place: {why}") from why
+        raise Refused(IMPOSSIBLE, f"{target} was not put in its place: {why}") from why
     sync(parent_of(target))
     return True

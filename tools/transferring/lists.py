@@ -7,7 +7,7 @@ import re
 from dataclasses import dataclass
 from pathlib import Path
 
-from transferring.failing import USAGE, Failed
+from office_common.errors import USAGE, Refused
 
 SUM = re.compile(r"\\?([0-9A-Fa-f]{64})[ \t]+[*]?(\S.*)")
 DIGEST = re.compile("[0-9a-f]{64}")
@@ -45,13 +45,13 @@ def read(file: Path) -> Read:
     try:
         text = file.read_bytes().decode("utf-8-sig")
     except (OSError, UnicodeDecodeError) as why:
-        raise Failed(f"{file} cannot be read: {why}", USAGE) from why
+        raise Refused(USAGE, f"{file} cannot be read: {why}") from why
     rows = [it for it in re.split(ENDS, text) if it.strip()]
     if not rows:
-        raise Failed(f"{file} is empty", USAGE)
+        raise Refused(USAGE, f"{file} is empty")
     found = sums(text) if SUM.fullmatch(rows[0]) else table(text, rows[0])
     if not found.lines:
-        raise Failed(f"{file} has no line with a SHA-256, of 64 hexadecimal digits", USAGE)
+        raise Refused(USAGE, f"{file} has no line with a SHA-256, of 64 hexadecimal digits")
     return found
 
 
@@ -82,8 +82,8 @@ def table(text: str, header: str) -> Read:
     digest, path, number, ref = (next((columns[it] for it in names if it in columns), None)
                                  for names in (DIGESTS, PATHS, NUMBERS, REFS))
     if digest is None or (path or number or ref) is None:
-        raise Failed("the list is not as sha256sum writes it, and no CSV with a column sha256 and one of path, record "
-                     f"or ref: {header[:80]!r}", USAGE)
+        raise Refused(USAGE, "the list is not as sha256sum writes it, and no CSV with a column sha256 and one of path, "
+                             f"record or ref: {header[:80]!r}")
     lines, wrong = [], []
     for row in rows:
         cells = [(row.get(it) or "").strip() if it is not None else "" for it in (digest, path, number, ref)]

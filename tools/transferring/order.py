@@ -10,8 +10,9 @@ import re
 import secrets
 from pathlib import Path
 
-from transferring.failing import USAGE, Failed
-from transferring.folder import new_folder, sync
+from office_common.errors import USAGE, Refused
+from office_common.files import sync
+from transferring.folder import new_folder
 from transferring.payload import PLAIN
 
 ENDING = ".order.txt"
@@ -55,7 +56,7 @@ def challenge_in(place: Path) -> str:
     try:
         found = CHALLENGE.search(place.read_text())
     except (OSError, UnicodeDecodeError) as why:
-        raise Failed(f"the order {place} cannot be read: {why}", USAGE) from why
+        raise Refused(USAGE, f"the order {place} cannot be read: {why}") from why
     if found is None:
-        raise Failed(f"{place} is no order of tools/transfer: it has no challenge", USAGE)
+        raise Refused(USAGE, f"{place} is no order of tools/transfer: it has no challenge")
     return found[1]

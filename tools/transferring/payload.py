@@ -5,10 +5,12 @@ import csv
 import io
 from dataclasses import dataclass, field
 
+from office_common.manifest import Named, read
+
 from transferring import large
 from transferring.catalogue import Aggregation, Aggregations
 from transferring.certificate import Certificate
-from transferring.failing import WRONG, Failed
+from office_common.errors import IMPOSSIBLE, WRONG, Refused
 from transferring.folder import File, Folder
 from transferring.kinds import FIRST, Kind, kind_of
 from transferring.names import file_name, record_name, stem
@@ -53,20 +55,20 @@ def fill(folder: Folder, sources: Sources, of: Certificate, base: str) -> Payloa
             put_record(folder, sources, record, content, base, found)
     if not found.records:
         why = "".join(f"; record {it[0]}, {it[1]}: {it[4]}" for it in found.lacking[:20])
-        raise Failed(f"run {of.run} sent nothing that is still there{why}", WRONG)
+        raise Refused(WRONG, f"run {of.run} sent nothing that is still there{why}")
     return found
 
 
 def put_record(folder: Folder, sources: Sources, record: Record, content: bytes, base: str, found: Payload) -> None:
     """Writes one content. A manifest gets a folder, together with the files that it names."""
     entry = record.entry
-    larges = large.named(content)
+    larges = read(content) or []
     kind = Kind(".txt", PLAIN) if larges else kind_of(content, entry.ref, record.title)
     own = f"{base}/{stem(entry.record, entry.ref, record.title)}"
     name = f"{own}/manifest.txt" if larges else f"{base}/{record_name(entry.record, entry.ref, record.title, kind)}"
     file = folder.put(name, [content], kind.media)
     if file.digest != entry.digest:
-        raise Failed(f"the content of record {entry.record} is not the one of the certificate", WRONG)
+        raise Refused(WRONG, f"the content of record {entry.record} is not the one of the certificate")
     found.records.append([entry.record, entry.ref, record.title, record.originated, record.added, record.aggregation,
                           *aggregation_of(sources, record), entry.class_code, entry.schedule, entry.due,
                           entry.confirmed_by, file.digest, file.length, file.name])
@@ -81,7 +83,7 @@ def put_record(folder: Folder, sources: Sources, record: Record, content: bytes,
     found.groups.append((f"{entry.ref}: {record.title}", files))
 
 
-def put_large(folder: Folder, sources: Sources, record: Record, at: int, it: large.Large, own: str) -> File | None:
+def put_large(folder: Folder, sources: Sources, record: Record, at: int, it: Named, own: str) -> File | None:
     """Writes a large file from the vault; None if the vault lacks it."""
     parts = large.fetched(sources.vault, record.entry.record, at)
     if parts is None:
@@ -91,8 +93,8 @@ def put_large(folder: Folder, sources: Sources, record: Record, at: int, it: lar
     found = folder.put(f"{own}/{file_name(at, it.place, kind)}", (part for rest in ([first], parts) for part in rest),
                        kind.media)
     if found.digest != it.digest or found.length != it.length:
-        raise Failed(f"file {at} of record {record.entry.record} is not the one of its manifest: the vault has it "
-                     "damaged", WRONG)
+        raise Refused(WRONG, f"file {at} of record {record.entry.record} is not the one of its manifest: the vault has "
+                             "it damaged")
     return found
 
 
@@ -102,7 +104,8 @@ def aggregation_of(sources: Sources, record: Record) -> list[object]:
         return ["", ""]
     found: Aggregation | None = sources.aggregations.get(record.aggregation)
     if found is None:
-        raise Failed(f"the catalogue lacks aggregation {record.aggregation}: is it older, or of another office?")
+        raise Refused(IMPOSSIBLE, f"the catalogue lacks aggregation {record.aggregation}: is it older, or of another "
+                                  "office?")
     return [found.ref, found.title]
 
 

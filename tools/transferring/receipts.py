@@ -5,7 +5,7 @@ from collections import Counter
 from dataclasses import dataclass, field
 
 from transferring.expected import Part, Sent
-from transferring.failing import WRONG, Failed
+from office_common.errors import WRONG, Refused
 from transferring.lists import Line, Read
 
 Key = tuple[int, int]
@@ -59,8 +59,8 @@ def refuse_own(sent: list[Sent], read: Read) -> None:
     """Refuses a list of plain sums that could be the folder's own: each of its lines has a path and a sum from there."""
     own = {(part.path, part.digest) for record in sent for part in record.parts}
     if all((it.path, it.digest) in own for it in read.lines):
-        raise Failed("each line of the list has a path and a sum as the folder itself has them, so it may come from the "
-                     "folder: ask for a list by the command of the order", WRONG)
+        raise Refused(WRONG, "each line of the list has a path and a sum as the folder itself has them, so it may come "
+                             "from the folder: ask for a list by the command of the order")
 
 
 def refuse_plain(sent: list[Sent], read: Read) -> None:
@@ -68,9 +68,9 @@ def refuse_plain(sent: list[Sent], read: Read) -> None:
     parts = [part for record in sent for part in record.parts]
     digests = {it.digest for it in read.lines}
     if digests.isdisjoint(it.answer for it in parts) and not digests.isdisjoint(it.digest for it in parts):
-        raise Failed("the list has the plain sums of the files, which are in the folder itself, so it does not show that the "
-                     "archive has the files: ask for a list by the command of the order, or take it --without-proof",
-                     WRONG)
+        raise Refused(WRONG, "the list has the plain sums of the files, which are in the folder itself, so it does not "
+                             "show that the archive has the files: ask for a list by the command of the order, or take it "
+                             "--without-proof")
 
 
 def judge(sent: list[Sent], read: Read) -> Judged:

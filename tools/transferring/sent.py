@@ -6,7 +6,7 @@ from dataclasses import dataclass
 
 from transferring import certificate
 from transferring.certificate import Certificate, Entry
-from transferring.failing import WRONG, Failed
+from office_common.errors import IMPOSSIBLE, WRONG, Refused
 from transferring.office import Office
 
 
@@ -27,7 +27,7 @@ def certificate_of(office: Office, run: int) -> Certificate:
     """Asks for the certificate of a run."""
     text = office.get(f"certificates/{run}")
     if text is None:
-        raise Failed(f"the office has no certificate of run {run}: it is not closed, or there is no such run", WRONG)
+        raise Refused(WRONG, f"the office has no certificate of run {run}: it is not closed, or there is no such run")
     return certificate.read(text, run)
 
 
@@ -38,8 +38,8 @@ def sent(office: Office, of: Certificate) -> Iterator[tuple[Record, bytes]]:
             # the content first: if a run ends the record in between, the office says so of the record
             content = office.get(f"records/{entry.record}/content")
             if content is not None and len(content) != entry.length:
-                raise Failed(f"record {entry.record} has {len(content)} bytes and not the {entry.length} of the "
-                             "certificate", WRONG)
+                raise Refused(WRONG, f"record {entry.record} has {len(content)} bytes and not the {entry.length} of the "
+                                     "certificate")
             yield record_of(office, entry, content is None), content or b""
 
 
@@ -47,12 +47,12 @@ def record_of(office: Office, entry: Entry, is_gone: bool) -> Record:
     told = office.json(f"records/{entry.record}")
     try:
         if told["ref"] != entry.ref or told["digest"] != entry.digest:
-            raise Failed(f"record {entry.record} of the office is not that of the certificate: was a backup restored?",
-                         WRONG)
+            raise Refused(WRONG, f"record {entry.record} of the office is not that of the certificate: was a backup "
+                                 "restored?")
         ended = told["ended"]
         if is_gone and ended is None:
-            raise Failed(f"record {entry.record} is not ended, and the office gives no content of it")
+            raise Refused(IMPOSSIBLE, f"record {entry.record} is not ended, and the office gives no content of it")
         gone = f"{ended['outcome']} by run {ended['run']}" if is_gone else ""
         return Record(entry, told["title"], told["originated"], told["added"], int(told["aggregation"]), gone)
     except (KeyError, TypeError, ValueError) as why:
-        raise Failed(f"what the office answers of record {entry.record} has another form: {why!r}") from why
+        raise Refused(IMPOSSIBLE, f"what the office answers of record {entry.record} has another form: {why!r}") from why

@@ -35,7 +35,7 @@ GROUPS = (
     Group("service", ".:gate:vault"),
     Group("replicas"),
     Group("packaging"),
-    Group("tools"),
+    Group("tools", ".:../service"),
     Group("tests/lint", ".:.."),
     Group("tests", only=("tests/kit/",)),
 )

@@ -1,0 +1,4 @@
+"""Asks an office and its vault, for the tools that send."""
+import floor
+
+floor.find()

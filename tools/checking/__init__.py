@@ -1,0 +1,4 @@
+"""Reads lists of acts as the program reads them."""
+import floor
+
+floor.find()
