@@ -7,12 +7,12 @@ The promise is on the disk before anybody hears of it.
 """
 from __future__ import annotations
 
-import os
 import pathlib
 import time
 
+from office_common import files
+
 from replica.errors import say
-from replica.office import synced
 
 FAILURES = 3
 """in a row at one position, until the entry is left alone for a while"""
@@ -89,13 +89,7 @@ class Blocked:
         return self.promised
 
     def write(self) -> None:
-        new = self.file.with_name("promised.new")
-        with open(new, "w", encoding="ascii") as file:
-            file.write(str(self.position))
-            file.flush()
-            os.fsync(file.fileno())
-        new.rename(self.file)
-        synced(self.file.parent)
+        files.write(self.file, str(self.position).encode())
 
     def release(self) -> None:
         """Takes the promise back here, once the others have it no more, or the entry was refused."""

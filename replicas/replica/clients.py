@@ -13,6 +13,9 @@ import socket
 import uuid
 from typing import NamedTuple
 
+from office_common import client
+from office_common.facts import LIMITS, LONGEST_ACTS
+
 from replica import metrics
 from replica.errors import say
 from replica.head import Head
@@ -20,7 +23,7 @@ from replica.service import ANY, NEWEST, Answer, Service
 
 KINDS = {"/acts": "acts", "/run/resume": "resume"}
 READINGS = ("GET", "HEAD", "OPTIONS")
-LONGEST_HEAD, LONGEST_BODY = 16_384, 1_048_576
+LONGEST_HEAD = LIMITS["head"]
 DRAINED = 262_144
 SILENT_SECONDS, DRAIN_SECONDS = 60, 0.1
 BACKLOG = 1024
@@ -52,16 +55,10 @@ def error_message(name: str) -> bytes:
 
 def length_of(head: Head) -> int:
     """The bytes of the body of some acts. Refused where the head does not say it as the office wants it."""
-    sizes = head.lines("Content-Length")
-    if head.lines("Transfer-Encoding"):
-        raise Refused("coding")
-    if not sizes:
-        raise Refused("length")
-    if len(sizes) != 1 or not re.fullmatch("[0-9]{1,19}", sizes[0].strip(" \t")):
-        raise Refused("digits")
-    if int(sizes[0]) > LONGEST_BODY:
-        raise Refused("size")
-    return int(sizes[0])
+    try:
+        return client.length_of(head.lines("Transfer-Encoding"), head.lines("Content-Length"), LONGEST_ACTS)
+    except client.WrongLength as wrong:
+        raise Refused("digits" if wrong.status == 400 else wrong.word) from wrong
 
 
 class Asked(NamedTuple):

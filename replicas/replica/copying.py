@@ -9,7 +9,6 @@ settings or operands, 3 where the member makes no snapshot within ten minutes, o
 """
 from __future__ import annotations
 
-import http.client
 import json
 import os
 import pathlib
@@ -18,7 +17,10 @@ import signal
 import sys
 import time
 
-from replica.office import synced
+from office_common.client import Client
+from office_common.errors import NoAnswer
+from office_common.files import sync
+
 from replica.settings import Settings, read_settings
 from replica.snapshots import positions_in, sum_in, sum_of
 
@@ -31,14 +33,10 @@ class NotCopied(Exception):
 
 def position_of(settings: Settings) -> int:
     """Where the member is now."""
-    link = http.client.HTTPConnection("127.0.0.1", settings.listen, timeout=10)
     try:
-        link.request("GET", "/replica")
-        return int(json.loads(link.getresponse().read())["position"])
-    except (OSError, http.client.HTTPException, ValueError, KeyError) as error:
+        return int(json.loads(Client(str(settings.listen), 10).ask("GET", "/replica").body)["position"])
+    except (NoAnswer, ValueError, KeyError) as error:
         raise NotCopied(f"the member at port {settings.listen} does not say where it is: {error!r}") from error
-    finally:
-        link.close()
 
 
 def ask_for_snapshot(settings: Settings) -> None:
@@ -71,9 +69,9 @@ def copy(settings: Settings, to: pathlib.Path) -> None:
         shutil.copyfile(source / "office.db", new)
         if sum_of(new) != sum_in(source, "office.db"):
             raise NotCopied(f"{source} is damaged")
-        synced(new)
+        sync(new)
         os.link(new, to)
-        synced(to.parent)
+        sync(to.parent)
     finally:
         new.unlink(missing_ok=True)
     print(f"{to}: the office at entry {int(source.name)}")

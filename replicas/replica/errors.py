@@ -1,7 +1,7 @@
 """What can go wrong in a member, each with one meaning, and how the member says so."""
 from __future__ import annotations
 
-import sys
+from office_common.command import report
 
 
 class Fault(Exception):
@@ -26,4 +26,4 @@ class Unclear(Exception):
 
 def say(text: str) -> None:
     """One line for the journal of this machine."""
-    print(f"office-member: {text}", file=sys.stderr, flush=True)
+    report("office-member", text)

@@ -18,6 +18,8 @@ import time
 from concurrent.futures import Future
 from typing import Iterator
 
+from office_common.files import has_content
+
 from replica.appending import Appender
 from replica.blocked import Blocked
 from replica.comparison import Comparison
@@ -27,7 +29,7 @@ from replica.errors import Fault, Halt, NotTaken, Unclear, say
 from replica.joining import groups
 from replica.log import Log
 from replica.memo import Memo
-from replica.office import Office, has_content, work_file
+from replica.office import Office, work_file
 from replica.reading import LOOK_SECONDS, Reading
 from replica.regular import Regular
 from replica.settings import Settings

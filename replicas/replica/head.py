@@ -6,7 +6,9 @@ import io
 import re
 from typing import Any
 
-MOST_LINES = 64
+from office_common.facts import LIMITS
+
+MOST_LINES = LIMITS["fields"]
 STRANGE = re.compile(rb"\n[ \t]|[\x00-\x08\x0b\x0c\x0e-\x1f\x7f]|\r[^\n]")
 """a folded line, and bytes that are in no head"""
 

@@ -4,7 +4,6 @@
 """
 from __future__ import annotations
 
-import os
 import pathlib
 import re
 import socket
@@ -13,12 +12,14 @@ import threading
 import time
 from typing import Iterator
 
+from office_common.files import has_content, log_of, sync
+from office_common.program import Server
+
 from replica.errors import Fault
 from replica.program import Program
 
 ANSWER_SECONDS = 600
 """without a byte of an answer to an entry: then the office hangs"""
-CONNECTIONS = "1000000"
 
 
 def status_of(answer: bytes, is_bodiless: bool = False) -> int | None:
@@ -41,23 +42,9 @@ def follows_from_log(answer: bytes) -> bool:
     return status in (200, 409)
 
 
-def has_content(file: pathlib.Path) -> bool:
-    """Whether the file is there with a byte in it. Of any other the office would make a new one."""
-    return file.is_file() and file.stat().st_size > 0
-
-
 def work_file(folder: pathlib.Path) -> pathlib.Path:
     """FILE of the member in a folder."""
     return folder / "work" / "office.db"
-
-
-def synced(file: pathlib.Path) -> None:
-    """Afterwards the disk has the file, or the folder, as it is now."""
-    descriptor = os.open(file, os.O_RDONLY)
-    try:
-        os.fsync(descriptor)
-    finally:
-        os.close(descriptor)
 
 
 def parts_of(link: socket.socket, until: float) -> Iterator[bytes]:
@@ -73,13 +60,13 @@ def parts_of(link: socket.socket, until: float) -> Iterator[bytes]:
         yield part
 
 
-class Office:
+class Office(Server):
     """An office that serves FILE at a port of its own, for this process alone."""
 
     def __init__(self, program: Program, file: pathlib.Path, port: int) -> None:
-        self.program, self.file, self.port = program, file, port
+        super().__init__(file, port)
+        self.program = program
         self.lock = threading.Lock()
-        self.process: subprocess.Popen[bytes] | None = None
         self.owes: float | None = None
         """since when an answer is awaited, or the line that says that it serves"""
         self.is_starting = self.is_still = False
@@ -93,33 +80,12 @@ class Office:
             raise Fault(f"{self.file} is gone, or empty")
         self.owes, self.is_starting = time.monotonic(), True
         try:
-            self.process = self.program.start(["serve", str(self.file), str(self.port), CONNECTIONS],
-                                              stdout=subprocess.PIPE)
-            assert self.process.stdout is not None
-            if not self.process.stdout.readline().startswith(b"listening"):
+            self.process = self.program.start(self.args(), stdout=subprocess.PIPE)
+            if not self.is_listening():
                 raise Fault(f"the office did not start: status {self.process.wait()}")
             self.starts += 1
         finally:
             self.owes, self.is_starting = None, False
-
-    def stop(self) -> None:
-        """Ends the process. FILE and its log then have every act that was answered."""
-        if self.process is not None:
-            self.process.kill()
-            self.process.wait()
-            if self.process.stdout is not None:
-                self.process.stdout.close()
-            self.process = None
-
-    def kill(self) -> None:
-        """Ends the process from any thread, whatever it does. Who waits for its answer gets none."""
-        process = self.process
-        if process is not None:
-            process.kill()
-
-    def has_ended(self) -> bool:
-        """Whether no process serves. One that ended while nothing was asked of it has left all that it answered."""
-        return self.process is None or self.process.poll() is not None
 
     def ask(self, method: str, path: str, body: bytes | None = None, seconds: float = float("inf")) -> bytes:
         """All bytes that the office answers. TimeoutError: not within these seconds."""
@@ -135,13 +101,13 @@ class Office:
             self.owes = None
 
     def sync(self) -> None:
-        """Afterwards the disk has FILE and its log. The office itself syncs nothing (opened.py). Fault without FILE."""
+        """Afterwards the disk has FILE and its log. The office itself syncs nothing (child.py of the floor). Fault without FILE."""
         if not has_content(self.file):
             raise Fault(f"{self.file} is gone, or empty")
-        log = pathlib.Path(f"{self.file}-wal")
+        log = log_of(self.file)
         for it in (log, self.file, self.file.parent):
             if it is not log or log.exists():
-                synced(it)
+                sync(it)
 
     def trouble(self, limit: float) -> str:
         """Why it may not answer a reading now, or nothing: somebody has waited longer than the limit."""

@@ -8,15 +8,14 @@ from __future__ import annotations
 
 import hashlib
 import os
-import pathlib
 import shutil
 import subprocess
-import sys
 from typing import Any, Sequence
+
+from office_common import program
 
 from replica.errors import Halt
 
-OPENED = str(pathlib.Path(__file__).with_name("opened.py"))
 PART = 1 << 20
 
 
@@ -47,9 +46,7 @@ class Program:
         """Starts the program; its process ends with this thread. Halt where its file was written over."""
         if self.hash() != self.digest:
             raise Halt(f"the program {self.path} was written over while this member ran")
-        return subprocess.Popen(
-            [sys.executable, "-I", "-S", OPENED, str(os.getpid()), str(self.descriptor), self.path, *words],
-            stdin=subprocess.DEVNULL, pass_fds=[self.descriptor], env=self.environment, **more)
+        return program.start(self.path, list(words), self.descriptor, env=self.environment, **more)
 
     def run(self, words: Sequence[str]) -> None:
         """Runs it to its end. CalledProcessError where that is not status 0."""

@@ -16,9 +16,10 @@ import subprocess
 import threading
 from typing import ContextManager
 
+from office_common.files import has_content, log_of
+
 from replica.errors import Fault, Halt, say
 from replica.memo import Memo
-from replica.office import has_content
 from replica.program import Program
 
 KEPT = 2
@@ -38,7 +39,7 @@ def files_of(file: pathlib.Path) -> list[pathlib.Path]:
     """FILE, and its log where there is one; nothing else that is beside them. Fault where there is no FILE."""
     if not has_content(file):
         raise Fault(f"{file} is gone, or empty")
-    log = pathlib.Path(f"{file}-wal")
+    log = log_of(file)
     return [file, log] if log.exists() else [file]
 
 

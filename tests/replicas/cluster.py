@@ -233,7 +233,7 @@ class Cluster:
             children = pathlib.Path(f"/proc/{process.pid}/task/{process.pid}/children").read_text()
             for child in children.split():
                 words = pathlib.Path(f"/proc/{child}/cmdline").read_bytes().split(b"\0")
-                if b"serve" in words and not any(it.endswith(b"opened.py") for it in words):
+                if b"serve" in words and not any(it.endswith(b"child.py") for it in words):
                     return int(child)
         except OSError:
             pass

@@ -33,7 +33,7 @@ GROUPS = (
     Group("service/gate", ".:..:../vault"),
     Group("service/vault", ".:.."),
     Group("service", ".:gate:vault"),
-    Group("replicas"),
+    Group("replicas", ".:../service"),
     Group("packaging"),
     Group("tools", ".:../service"),
     Group("tests/lint", ".:.."),
