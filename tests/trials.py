@@ -24,6 +24,7 @@ CHECKS = [
     Trial("tests/runner_trial", "trials are run, judged and skipped as they should be", needs="", limit=120),
     Trial("tests/mutants/applies", "each mutant can still be applied", needs="", limit=60),
     Trial(".ci/commands.py check", "README.md has the commands of the program", needs="", limit=60),
+    Trial("tests/floor", "the floor of the companions, with what is wrong", needs="", limit=60),
     Trial(".ci/facts check", "what the crates decide is told the same elsewhere", needs="", limit=60),
     Trial("tests/links", "each link of the pages leads somewhere", needs="", limit=60),
     Trial("tests/queries", "the texts and queries of TABLES.md are right", needs="sqlite3", limit=60),
@@ -77,6 +78,7 @@ LANDING = [
 TRIALS = [
     Trial("tests/mutants/applies", "each mutant can still be applied", "contract", "", 1),
     Trial("tests/mutants/try", "the prover refuses each mutant outside of the gate", "contract", "kit"),
+    Trial("tests/floor", "the floor of the companions, with what is wrong", needs="", limit=60),
     Trial(".ci/facts check", "what the crates decide is told the same elsewhere", needs="", limit=60),
     Trial("tests/links", "each link of the pages leads somewhere", "pages", "", 1),
     Trial("tests/queries", "the texts and queries of TABLES.md are right", "pages tables", "sqlite3", 1),
