@@ -35,7 +35,8 @@ class Machine(Booted):
         for it in [*SCRIPTS.glob("office-*"), VAULT / "office-vault"]:
             if it.is_file() and "." not in it.name:
                 shutil.copy(it, places[0])
-        shutil.copytree(SCRIPTS / "office_common", places[1] / "office_common")
+        for it in ("office_serve", "office_common"):
+            shutil.copytree(SCRIPTS / it, places[1] / it)
         shutil.copytree(VAULT / "office_vault", places[1] / "office_vault")
         lay_out(places[2], SCRIPTS, VAULT)
         (self.top / "etc/office").mkdir(exist_ok=True)
