@@ -12,4 +12,5 @@ SCRIPTS = TOP / "service"
 NGINX = TOP / "service/nginx"
 
 sys.dont_write_bytecode = True
-sys.path[:0] = [str(VAULT), str(SCRIPTS)]
+# the floor lies beside the folder of the vault, also beside one with a planted mistake
+sys.path[:0] = [str(VAULT), str(VAULT.parent)]
