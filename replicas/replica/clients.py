@@ -36,8 +36,8 @@ STATUSES = {"length": "411 Length Required", "digits": "400 Bad Request",
 NAMES = {"digits": "length"}
 
 
-class Refused(Exception):
-    """A request that is neither an entry nor a reading: the name of its error."""
+class Rejected(Exception):
+    """A request is neither an entry nor a reading: the name of its error."""
 
 
 def message(status: str, told: object, kind: str = "application/json") -> bytes:
@@ -54,11 +54,11 @@ def error_message(name: str) -> bytes:
 
 
 def length_of(head: Head) -> int:
-    """The bytes of the body of some acts. Refused where the head does not say it as the office wants it."""
+    """The bytes of the body of some acts. Rejected where the head does not say it as the office wants it."""
     try:
         return client.length_of(head.lines("Transfer-Encoding"), head.lines("Content-Length"), LONGEST_ACTS)
     except client.WrongLength as wrong:
-        raise Refused("digits" if wrong.status == 400 else wrong.word) from wrong
+        raise Rejected("digits" if wrong.status == 400 else wrong.word) from wrong
 
 
 class Asked(NamedTuple):
@@ -83,7 +83,7 @@ class Connection:
             async with asyncio.timeout(SILENT_SECONDS):
                 asked = await self.asked()
             answer, key = await self.answer(asked), asked.key
-        except Refused as error:
+        except Rejected as error:
             answer = Answer(None, str(error))
         self.writer.write(self.written(answer, key))
         self.writer.write_eof()
@@ -96,19 +96,19 @@ class Connection:
         """The request. Of a body no act is looked at."""
         head = await self.head()
         if not head.is_whole:
-            raise Refused("head")
+            raise Rejected("head")
         self.writer.write(head.told)
         if head.command != "POST" or head.target not in KINDS:
             return Asked(head)
         key = head.line("Idempotency-Key") or uuid.uuid4().hex
         if not head.has_host():
-            raise Refused("host")
+            raise Rejected("host")
         if not re.fullmatch("[A-Za-z0-9._~-]{1,64}", key):
-            raise Refused("header")
+            raise Rejected("header")
         try:
             return Asked(head, key, await self.reader.readexactly(length_of(head)) if head.target == "/acts" else b"")
         except asyncio.IncompleteReadError as error:
-            raise Refused("body") from error
+            raise Rejected("body") from error
 
     async def head(self) -> Head:
         """What came, to its first empty line. ConnectionError where nothing came."""
@@ -117,11 +117,11 @@ class Connection:
             while not raw.endswith((b"\n\n", b"\n\r\n")):
                 raw += await self.reader.readuntil(b"\n")
                 if len(raw) > LONGEST_HEAD:
-                    raise Refused("head")
+                    raise Rejected("head")
         except asyncio.IncompleteReadError as error:
-            raise Refused("head") if raw or error.partial else ConnectionError("nothing came") from error
+            raise Rejected("head") if raw or error.partial else ConnectionError("nothing came") from error
         except asyncio.LimitOverrunError as error:
-            raise Refused("head") from error
+            raise Rejected("head") from error
         return Head(raw)
 
     async def leave(self) -> None:
@@ -164,9 +164,9 @@ class Connection:
         told, wanted = head.line("Office-After"), head.line("Office-Read")
         after = "0" if told is None else told
         if not head.has_host():
-            raise Refused("host")
+            raise Rejected("host")
         if not re.fullmatch("[0-9]{1,15}", after) or wanted not in (None, NEWEST, ANY):
-            raise Refused("header")
+            raise Rejected("header")
         method = head.command if head.command in READINGS else "PUT"
         return await self.service.read(method, head.target, wanted, int(after))
 
