@@ -30,7 +30,7 @@ BREAKS = (
     Break("packaging/make", "", NO_PROGRAM, "python"),
     Break("tests/run", "", NO_PROGRAM, "python"),
     # Python and types
-    Break("service/office_serve/child.py", "", "import base64", "pyflakes"),
+    Break("service/office_common/child.py", "", "import base64", "pyflakes"),
     Break("service/office-awaiting", "", "print(never_named)", "pyflakes"),
     Break("service/office_seal/chain.py", "", "def widened(number: int) -> str:\n    return number",
           "mypy", ("service/office_seal/chain.py", "    return number\n")),
