@@ -1,38 +1,41 @@
 -- A desk that was opened over a connection, by what its opening says.
-use Rattle.std.proofs.Common.{◌≡◌, sym}
+use Rattle.std.proofs.Common.{inl, inr, sym, subst}
 use Rattle.sqlite.specs.Held.{Held, state}
-use Rattle.sqlite.specs.State.{HasCleanDisk}
+use Rattle.sqlite.specs.State.{State as FileState, HasCleanDisk}
 use Rattle.sqlite_trees.specs.declared.store.Store.{Ghosts}
-use Rattle.office_rules.specs.Rows.{rows_of}
-use Rattle.office_rules.specs.State.{State, empty_state}
-use Rattle.office_store.specs.RepresentsRows.{ContainsRows}
+use Rattle.office_rules.specs.State.{State}
+use Rattle.office_store.proofs.OneDatabase.{one_database}
 use Rattle.office_desk.specs.Desk.{DeskState}
 use Rattle.office_desk.specs.Leaving.{IsAt}
 use Rattle.office_desk.specs.Opening.{Opens}
-use Rattle.office_desk.specs.Outcomes.{FromEach}
-use Rattle.office_commands.specs.Opening.{FromOpened, IsOpened}
+use Rattle.office_commands.specs.Opening.{IsOpened, RepresentSome, WasAt, WasFound}
 
 module _ {S : Type 0} (g : Ghosts S) (conn : Held S) (desk : DeskState S) (it : Opens g conn desk) where
-  -- what is so of each state at which the desk was is so of the one that was opened, once something was done at the desk
-  pub of_desk : (after : DeskState S) → (HasCleanDisk (state g after.connection) → HasCleanDisk (state g desk.connection)) → (P : State → Type 0) → FromEach g desk after P → FromOpened (state g conn) (state g after.connection) P
-  of_desk after was_clean P reported = record {
-    made = λ clean blank. reported empty_state clean ((it.finds (was_clean clean)).made blank);
-    found = λ ed clean rest. let f = (it.finds (was_clean clean)).found ed rest in (f.0, f.1, reported f.0 clean f.2);
-  }
+  module _ (new : FileState) (was_clean : HasCleanDisk new → HasCleanDisk (state g desk.connection)) where
+    -- the desk is at the state with which the office was opened
+    pub desk_at : (s : State) → WasFound (state g conn) new s → IsAt g s desk
+    desk_at s (clean, inl (blank, is)) = subst (λ (t : State). IsAt g t desk) (sym is) ((it.finds (was_clean clean)).made blank)
+    desk_at s (clean, inr (ed, rest, sound, rows)) =
+        let found = (it.finds (was_clean clean)).found ed rest in
+        subst (λ (t : State). IsAt g t desk) (one_database ed found.0 s (state g conn).now.trees found.1.sound sound found.1.rows rows) found.2
 
-  -- the desk is at it
-  pub desk_at : FromOpened (state g conn) (state g desk.connection) (λ t. IsAt g t desk)
-  desk_at = of_desk desk (λ clean. clean) (λ t. IsAt g t desk) (λ t clean at. at)
+    -- and there is one
+    pub represent_some : RepresentSome (state g conn) new
+    represent_some ed clean rest = let found = (it.finds (was_clean clean)).found ed rest in (found.0, found.1)
 
-  -- what is so of each state with the office of the desk is so of it
-  pub of_office : (P : State → Type 0) → ((s : State) → s.office ≡ desk.office → P s) → FromOpened (state g conn) (state g desk.connection) P
-  of_office P reported = of_desk desk (λ clean. clean) P (λ t clean at. reported t (sym at.office))
+  -- it was at that state before something was done at it
+  pub was_at : (after : DeskState S) → (HasCleanDisk (state g after.connection) → HasCleanDisk (state g desk.connection)) → (s : State) → WasFound (state g conn) (state g after.connection) s → WasAt g desk after s
+  was_at after was_clean s was = (was.0, desk_at (state g after.connection) was_clean s was)
 
   -- the office was opened
-  pub opened : IsOpened (state g conn) (state g desk.connection)
-  opened = record {
-    clear = it.clear;
-    opened = of_desk desk (λ clean. clean) (λ t. ContainsRows (rows_of t) (state g desk.connection)) (λ t clean at. at.rows);
-    same = λ clean rest. (it.finds clean).same rest;
-    rest = λ clean. (it.finds clean).rest;
-  }
+  pub opened : IsOpened (state g conn) (state g desk.connection) desk.office
+  opened =
+      let file = state g desk.connection in
+      record {
+        clear = it.clear;
+        found = represent_some file (λ clean. clean);
+        is = λ s was. sym (desk_at file (λ clean. clean) s was).office;
+        rows = λ s was. (desk_at file (λ clean. clean) s was).rows;
+        same = λ clean rest. (it.finds clean).same rest;
+        rest = λ clean. (it.finds clean).rest;
+      }

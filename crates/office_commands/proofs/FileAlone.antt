@@ -27,7 +27,7 @@ use Rattle.office_commands.specs.declared.office_files.FilesLeft.{FilesLeft}
 use Rattle.office_commands.specs.declared.office_files.FilesLeft.TheVariants as files
 use Rattle.office_commands.proofs.Closings.{hindered}
 use Rattle.office_commands.proofs.FoundDamage.{last_clean}
-use Rattle.office_commands.proofs.NextStates.{IsEnded, IsOneDatabase, StaySound, command_left, of_opened}
+use Rattle.office_commands.proofs.NextStates.{IsEnded, IsOneDatabase, StaySound, command_left, was_found}
 use Rattle.office_commands.proofs.StaysOpen.{command_on}
 
 module _ {D : Type 0} {g : Ghosts D} where
@@ -63,7 +63,7 @@ command_alone one stay ends image s order text written after exit (Ok was) left 
     let rest = over.opened.rest clean_last ed contained.trees office in
     let rows = subst (RepresentsRowsIn ed (rows_of s)) (sym rest.1) contained.office.rows in
     let sound = contained.office.sound in
-    let on = command_on over_files was last s rest.0.is_open (λ P opened. of_opened one stay ends (file_state was) (file_state last) s clean_last sound ed P rest.0 rows opened) text written after exit fine order over.ends in
+    let on = command_on over_files was last s rest.0.is_open (was_found one stay ends (file_state was) (file_state last) s clean_last sound ed rest.0 rows) text written after exit fine order over.ends in
     let leaves = command_left one stay ends over_files was last s clean_last sound ed rest.0 rows order text written after exit over.ends in
     let at = leaves (file_state last).committed.trees (over.stays on) in
     elim (closed_or_hindered last left is_left clean on) [

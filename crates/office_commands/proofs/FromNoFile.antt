@@ -5,7 +5,6 @@ use Rattle.sqlite_trees.specs.declared.store.Store.{Ghosts}
 use Rattle.sqlite.specs.Files.{IsEmpty}
 use Rattle.sqlite.specs.Held.{Held, state}
 use Rattle.sqlite.specs.State.{State as FileState, HasCleanDisk}
-use Rattle.office_rules.specs.Rows.{rows_of}
 use Rattle.office_rules.specs.Sound.{IsSound}
 use Rattle.office_rules.specs.State.{State, empty_state}
 use Rattle.office_sql.specs.declared.schema_versions.SchemaVersion.TheVariants as schema_version
@@ -16,12 +15,12 @@ use Rattle.office_life.specs.Standing.{RestsAt}
 use Rattle.office_life.specs.Tables.{AreTablesAt, IsOfficeAt}
 use Rattle.office_command_line.specs.Orders.{Command}
 use Rattle.office_commands.specs.NextCommand.{IsLeftBy, IsServedTo}
-use Rattle.office_commands.specs.Opening.{FromOpened, OfficeOpenFailed}
+use Rattle.office_commands.specs.Opening.{OfficeOpenFailed, WasFound}
 use Rattle.office_commands.specs.Running.{RunEnds}
 use Rattle.office_commands.specs.Serving.{IsDeskOf, ServiceEnds}
 use Rattle.office_commands.specs.declared.exit.Exit.{Exit}
-use Rattle.office_commands.proofs.NextService.{desk_at, service_so}
-use Rattle.office_commands.proofs.NextStates.{IsEnded, IsOneDatabase, StaySound, at_before, at_unopened, command_so, of_opened}
+use Rattle.office_commands.proofs.NextService.{service_so}
+use Rattle.office_commands.proofs.NextStates.{IsEnded, IsOneDatabase, StaySound, at_before, at_unopened, command_so, was_found}
 
 -- an office at this state; or still the tables, of which there were none
 abbrev pub IsOfficeOrBefore : FileState → Trees → State → Type 0
@@ -36,9 +35,9 @@ sound_at empty old s (inl (ed, rest, sound, rows)) = sound
 sound_at empty old s (inr (blank, none, is)) = subst IsSound (sym is) empty
 
 module _ (one : IsOneDatabase) (stay : StaySound) (empty : IsSound empty_state) (ends : IsEnded) (old new : FileState) (s : State) (clean : HasCleanDisk new) where
-  of_rest : RestsAt old s → (P : State → Type 0) → FromOpened old new P → P s
-  of_rest (inl (ed, rest, sound, rows)) P it = of_opened one stay ends old new s clean sound ed P rest rows it
-  of_rest (inr (blank, none, is)) P it = subst P (sym is) (it.made clean blank)
+  rest_found : RestsAt old s → WasFound old new s
+  rest_found (inl (ed, rest, sound, rows)) = was_found one stay ends old new s clean sound ed rest rows
+  rest_found (inr (blank, none, is)) = (clean, inl (blank, is))
 
   before_rest : RestsAt old s → (db : Trees) → old.may_leave db → IsOfficeOrBefore old db s
   before_rest (inl (ed, rest, sound, rows)) db may = inl (at_before one stay ends old new s clean sound ed rest rows db may)
@@ -53,15 +52,14 @@ module _ (one : IsOneDatabase) (stay : StaySound) (empty : IsSound empty_state) 
 
 module _ (one : IsOneDatabase) (stay : StaySound) (empty : IsSound empty_state) (ends : IsEnded) {S : Type 0} (g : Ghosts S) (old new : Held S) (s : State) (clean : HasCleanDisk (state g new)) (rests : RestsAt (state g old) s) where
   desk_rest : (it : RestsAt (state g old) s) (desk : DeskState S) → HasCleanDisk (state g desk.connection) → IsDeskOf g old desk → IsAt g s desk
-  desk_rest (inl (ed, rest, sound, rows)) desk clean_desk of = desk_at one stay ends g old new s clean sound ed rest rows desk clean_desk of
-  desk_rest (inr (blank, none, is)) desk clean_desk of = subst (λ (t : State). IsAt g t desk) (sym is) (of.opened.made clean_desk blank)
+  desk_rest it desk clean_desk of = of.is_at s (rest_found one stay empty ends (state g old) (state g desk.connection) s clean_desk it)
 
   pub command_from : (order : Command) (text : List ℕ) (written after : Option (List ℕ)) (exit : Exit) → RunEnds g order (Some text) old new written after exit
       → (db : Trees) → (state g new).may_leave db → (u : State) × IsLeftBy order text written after exit s u × IsOfficeOrBefore (state g old) db u
   command_from order text written after exit it =
       let was = state g old in
       let is = state g new in
-      command_so stay ends (IsOfficeOrBefore was) (λ db u at. inl at) g old new s (sound_at empty was s rests) (of_rest one stay empty ends was is s clean rests) (before_rest one stay empty ends was is s clean rests)
+      command_so stay ends (IsOfficeOrBefore was) (λ db u at. inl at) g old new s (sound_at empty was s rests) (rest_found one stay empty ends was is s clean rests) (before_rest one stay empty ends was is s clean rests)
       (unopened_rest one stay empty ends was is s clean rests) order text written after exit it
 
   pub service_from : (port count : ℕ) (written after : Option (List ℕ)) (exit : Exit) → ServiceEnds g port count old new written after exit

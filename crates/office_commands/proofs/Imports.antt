@@ -15,11 +15,12 @@ use Rattle.office_wire.specs.Importing.{ArePrefixRows, AreSomeRows, EndsImport, 
 use Rattle.office_wire.specs.declared.record_import.ImportStop.{ImportStop}
 use Rattle.office_wire.specs.declared.record_import.ImportStop.TheVariants as import
 use Rattle.office_commands.specs.Importing.{AreImported, ImportsAt, IsRowCut, exit_of_import}
+use Rattle.office_commands.specs.Opening.{WasAt}
 use Rattle.office_commands.specs.declared.exit.Exit.{Exit}
 
--- what is imported into the states that are reported in one way is so into those reported in another
-pub imports_of : (AtState AtOther : (State → Type 0) → Type 0) → ((P : State → Type 0) → AtState P → AtOther P) → (day : ℤ) (text : Option (List ℕ)) (new : FileState) (written after : Option (List ℕ)) (e : Exit) → ImportsAt AtState day text new written after e → ImportsAt AtOther day text new written after e
-imports_of AtState AtOther to day text new written after e (done, is, h) = (done, is, to _ h)
+-- what was imported from each state of one kind was so from each of another that is among them
+pub imports_of : (Was Other : State → Type 0) → ((s : State) → Other s → Was s) → (day : ℤ) (text : Option (List ℕ)) (new : FileState) (written after : Option (List ℕ)) (e : Exit) → ImportsAt Was day text new written after e → ImportsAt Other day text new written after e
+imports_of Was Other to day text new written after e (done, is, h) = (done, is, λ s was. h s (to s was))
 
 row_cut : {S : Type 0} (g : Ghosts S) (day : ℤ) (u : State) (row : Fields) (f : Fault) (desk : DeskState S) → IsRowStopped g day u row f desk → IsRowCut day u row f (state g desk.connection)
 row_cut g day u row f desk (inl it) = inl (it.0, it.1.rows)
@@ -42,5 +43,5 @@ module _ {S : Type 0} (g : Ghosts S) (day : ℤ) (text : Option (List ℕ)) (t :
 -- an import ends as it was done
 pub imported : {S : Type 0} (g : Ghosts S) (day : ℤ) (text : Option (List ℕ)) (old desk : DeskState S) (written after : Option (List ℕ)) (x : Result ℕ ImportStop) (e : Exit) → e ≡ exit_of_import x
     → ((t : State) → HasCleanDisk (state g desk.connection) → IsAt g t old → EndsImport g day t text x desk written after)
-    → ImportsAt (λ P. (t : State) → HasCleanDisk (state g desk.connection) → IsAt g t old → P t) day text (state g desk.connection) written after e
-imported g day text old desk written after x e is did = (x, is, λ t clean represents. came g day text t desk written after x (did t clean represents))
+    → ImportsAt (WasAt g old desk) day text (state g desk.connection) written after e
+imported g day text old desk written after x e is did = (x, is, λ t was. came g day text t desk written after x (did t was.0 was.1))

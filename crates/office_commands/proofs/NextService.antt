@@ -36,7 +36,7 @@ use Rattle.office_commands.specs.NextCommand.{IsServedTo, LeavesAt}
 use Rattle.office_commands.specs.Opening.{OfficeOpenFailed}
 use Rattle.office_commands.specs.Serving.{IsDeskOf, ServiceEnds}
 use Rattle.office_commands.specs.declared.exit.Exit.{Exit}
-use Rattle.office_commands.proofs.NextStates.{IsEnded, IsOneDatabase, StaySound, at_rows, at_stop, at_unopened, well_formed_prefix, found_same, sound_acts, sound_steps}
+use Rattle.office_commands.proofs.NextStates.{IsEnded, IsOneDatabase, StaySound, at_rows, at_stop, at_unopened, well_formed_prefix, sound_acts, sound_steps, was_found}
 use Rattle.office_commands.proofs.Services.{clean_turn, clean_turns}
 
 pub well_formed_steps : (n : ℕ) → AreWellFormed (run_steps n)
@@ -183,10 +183,8 @@ module _ (stay : StaySound) (ends : IsEnded) (At : Trees → State → Type 0) (
 
 module _ (one : IsOneDatabase) (stay : StaySound) (ends : IsEnded) {S : Type 0} (g : Ghosts S) (old new : Held S) (s : State) (clean : HasCleanDisk (state g new)) (sound : IsSound s) where
   -- the desk that was opened is at the state at which the office was
-  pub desk_at : (ed : SchemaVersion) → IsAtRestOver ed (state g old) → RepresentsRowsIn ed (rows_of s) (state g old).now.trees → (desk : DeskState S) → HasCleanDisk (state g desk.connection) → IsDeskOf g old desk → IsAt g s desk
-  desk_at ed rest rows desk clean_desk of =
-      let m = of.opened.found ed clean_desk rest in
-      subst (λ (t : State). IsAt g t desk) (found_same one stay ends (state g old) (state g new) s clean sound ed m.0 rows m.1) m.2
+  desk_at : (ed : SchemaVersion) → IsAtRestOver ed (state g old) → RepresentsRowsIn ed (rows_of s) (state g old).now.trees → (desk : DeskState S) → HasCleanDisk (state g desk.connection) → IsDeskOf g old desk → IsAt g s desk
+  desk_at ed rest rows desk clean_desk of = of.is_at s (was_found one stay ends (state g old) (state g desk.connection) s clean_desk sound ed rest rows)
 
   pub service_left : (ed : SchemaVersion) → IsAtRestOver ed (state g old) → RepresentsRowsIn ed (rows_of s) (state g old).now.trees → (port count : ℕ) (written after : Option (List ℕ)) (exit : Exit) → ServiceEnds g port count old new written after exit
       → LeavesAt (IsServedTo s) (state g new)

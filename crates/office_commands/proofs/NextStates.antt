@@ -14,7 +14,7 @@ use Rattle.office_rules.specs.Forms.{AreWellFormed, IsWellFormedAct}
 use Rattle.office_rules.specs.Rows.{rows_of}
 use Rattle.office_rules.specs.Runs.{after_steps, candidates, open_run, whole}
 use Rattle.office_rules.specs.Sound.{IsSound}
-use Rattle.office_rules.specs.State.{State}
+use Rattle.office_rules.specs.State.{Office, State}
 use Rattle.office_rules.specs.declared.act.Act.{Act}
 use Rattle.office_rules.specs.declared.act.Act.TheVariants as act
 use Rattle.office_rules.specs.declared.answer.Answer.{Answer}
@@ -27,7 +27,7 @@ use Rattle.office_store.specs.declared.fault.Fault.TheVariants as fault
 use Rattle.office_desk.specs.Leaving.{StopsLeaving}
 use Rattle.office_desk.specs.Opening.{RepresentIn}
 use Rattle.office_desk.specs.Outcomes.{ActsCameTo, ActsOutcome, all_done, answers_of, stopped}
-use Rattle.office_desk.specs.Resumptions.{RunLeft, none_open, run_closed, run_stopped}
+use Rattle.office_desk.specs.Resumptions.{RunLeft, RunOutcome, none_open, run_closed, run_stopped}
 use Rattle.office_desk.proofs.RunSteps.{step_run}
 use Rattle.office_json.specs.Answers.{answer_lines}
 use Rattle.office_json.specs.Lists.{acts_in}
@@ -38,10 +38,8 @@ use Rattle.office_command_line.specs.Orders.{Command}
 use Rattle.office_command_line.specs.declared.register.Register.{Register}
 use Rattle.office_command_line.specs.declared.register.Register.TheVariants as register
 use Rattle.office_commands.specs.Applying.{Applies, IsUnread, Performs}
-use Rattle.office_commands.specs.Certifying.{CertificateEnds, Certifies, IsCertificate}
-use Rattle.office_commands.specs.Exporting.{ExportEnds, Exports, IsRegister, IsRegisterText}
-use Rattle.office_wire.specs.Answering.{HasCertificate}
-use Rattle.office_wire.specs.Exporting.{IsSomeOut}
+use Rattle.office_commands.specs.Certifying.{CertificateEnds, Certifies}
+use Rattle.office_commands.specs.Exporting.{ExportEnds, Exports}
 use Rattle.office_wire.specs.declared.record_import.ImportStop.{ImportStop}
 use Rattle.office_wire.specs.declared.record_import.ImportStop.TheVariants as import
 use Rattle.office_commands.specs.Importing.{AreImported, ImportsAt, IsRowCut, exit_of_import}
@@ -49,8 +47,8 @@ use Rattle.office_life.specs.Tables.{IsOfficeAt}
 use Rattle.office_commands.specs.NextCommand.{AreActsDone, AreRowsAdded, IsAfterActs, IsEndOfRows, IsFaultAlone, IsLeftBy, IsNotApplied, IsNotImported, IsRunResumed, IsUntouched, IsVersionReported, LeavesAt, ReadsAt, SaysAll}
 use Rattle.office_commands.specs.Calling.{Reports}
 use Rattle.office_commands.specs.ExitStatuses.{exit_of_acts}
-use Rattle.office_commands.specs.Opening.{EndsOpenFailed, FromOpened, IsOpened, IsRestKept, OfficeOpenFailed}
-use Rattle.office_commands.specs.Resuming.{IsRunReported, ResumeEnds, Resumes}
+use Rattle.office_commands.specs.Opening.{EndsOpenFailed, IsOpened, OfficeOpenFailed, RepresentSome, WasFound, WasOpened}
+use Rattle.office_commands.specs.Resuming.{IsRunReported, ResumeEnds}
 use Rattle.office_commands.specs.Making.{InitEnds}
 use Rattle.office_commands.specs.Running.{RunEnds}
 use Rattle.office_commands.specs.declared.exit.Exit.{Exit}
@@ -136,11 +134,11 @@ at_stop new v w fault.Version sv sw left db may = absurd left
 
 module _ (one : IsOneDatabase) (stay : StaySound) (ends : IsEnded) (old new : FileState) (s : State) (clean : HasCleanDisk new) (sound : IsSound s) where
   -- the state at which the office was found is the one at which it was
-  pub found_same : (ed : SchemaVersion) (t : State) → RepresentsRowsIn ed (rows_of s) old.now.trees → RepresentIn ed old.now.trees t → t ≡ s
+  found_same : (ed : SchemaVersion) (t : State) → RepresentsRowsIn ed (rows_of s) old.now.trees → RepresentIn ed old.now.trees t → t ≡ s
   found_same ed t rows found = one ed t s old.now.trees found.sound sound found.rows rows
 
-  pub of_opened : (ed : SchemaVersion) (P : State → Type 0) → IsAtRestOver ed old → RepresentsRowsIn ed (rows_of s) old.now.trees → FromOpened old new P → P s
-  of_opened ed P rest rows it = let m = it.found ed clean rest in subst P (found_same ed m.0 rows m.1) m.2
+  pub was_found : (ed : SchemaVersion) → IsAtRestOver ed old → RepresentsRowsIn ed (rows_of s) old.now.trees → WasFound old new s
+  was_found ed rest rows = (clean, inr (ed, rest, sound, rows))
 
   -- what was there before
   pub at_before : (ed : SchemaVersion) → IsAtRestOver ed old → RepresentsRowsIn ed (rows_of s) old.now.trees → (db : Trees) → old.may_leave db → IsOfficeAt db s
@@ -162,7 +160,7 @@ module _ (one : IsOneDatabase) (stay : StaySound) (ends : IsEnded) (old new : Fi
 
 -- where an office that was opened so may be left, whatever the tables are that count as being at a state
 module _ (stay : StaySound) (ends : IsEnded) (At : Trees → State → Type 0) (office : (db : Trees) (u : State) → IsOfficeAt db u → At db u) (old new : FileState) (s : State) (sound : IsSound s)
-    (of_opened : (P : State → Type 0) → FromOpened old new P → P s) (at_unopened : (f : Fault) → OfficeOpenFailed f old new → (db : Trees) → new.may_leave db → At db s) where
+    (was : WasFound old new s) (at_unopened : (f : Fault) → OfficeOpenFailed f old new → (db : Trees) → new.may_leave db → At db s) where
   abbrev LeavesSo : (State → Type 0) → Type 0
   LeavesSo Is = (db : Trees) → new.may_leave db → (u : State) × Is u × At db u
 
@@ -181,32 +179,26 @@ module _ (stay : StaySound) (ends : IsEnded) (At : Trees → State → Type 0) (
       (s, is (record { fault = none.0; reported = none.1; untouched = (refl, none.3) }), at_unopened none.0 none.2 db may)
 
   -- the office was opened and left at its state, and something was reported of it
-  reads_left : (Is : Type 0) (written after : Option (List ℕ)) (exit : Exit) → Is → IsOpened old new → LeavesSo (ReadsAt Is written after exit s)
-  reads_left Is written after exit is opened db may = (s, inr (is, refl), has_rows s sound (of_opened (λ t. ContainsRows (rows_of t) new) opened.opened) db may)
+  reads_left : (Is : Type 0) (written after : Option (List ℕ)) (exit : Exit) → Is → (o : Office) → IsOpened old new o → LeavesSo (ReadsAt Is written after exit s)
+  reads_left Is written after exit is o opened db may = (s, inr (is, refl), has_rows s sound (opened.rows s was) db may)
 
   -- ---- init
 
   init_left : (written after : Option (List ℕ)) (exit : Exit) → InitEnds old new written after exit → LeavesSo (ReadsAt (IsVersionReported written after exit) written after exit s)
   init_left written after exit (inl none) = fault_left (ReadsAt (IsVersionReported written after exit) written after exit s) written after exit (λ alone. inl alone) none
-  init_left written after exit (inr done) = reads_left (IsVersionReported written after exit) written after exit done.1 done.0
+  init_left written after exit (inr (o, opened, reported)) = reads_left (IsVersionReported written after exit) written after exit reported o opened
 
   -- ---- the readings
 
-  exports_at : (it : Register) (written after : Option (List ℕ)) (exit : Exit) → Exports (FromOpened old new) it written after exit → Exports (λ Is. Is s) it written after exit
-  exports_at it written after exit (inl (done, at)) = inl (done, of_opened (λ t. IsRegister it written after t.office) at)
-  exports_at it written after exit (inr (why, at)) = inr (why, of_opened (λ t. IsSomeOut (IsRegisterText it) t.office written after) at)
+  export_left : (it : Register) (written after : Option (List ℕ)) (exit : Exit) → ExportEnds it old new written after exit → LeavesSo (ReadsAt (Exports s.office it written after exit) written after exit s)
+  export_left it written after exit (inl none) = fault_left (ReadsAt (Exports s.office it written after exit) written after exit s) written after exit (λ alone. inl alone) none
+  export_left it written after exit (inr (o, opened, done)) =
+      reads_left (Exports s.office it written after exit) written after exit (subst (λ (x : Office). Exports x it written after exit) (sym (opened.is s was)) done) o opened
 
-  export_left : (it : Register) (written after : Option (List ℕ)) (exit : Exit) → ExportEnds it old new written after exit → LeavesSo (ReadsAt (Exports (λ Is. Is s) it written after exit) written after exit s)
-  export_left it written after exit (inl none) = fault_left (ReadsAt (Exports (λ Is. Is s) it written after exit) written after exit s) written after exit (λ alone. inl alone) none
-  export_left it written after exit (inr done) = reads_left (Exports (λ Is. Is s) it written after exit) written after exit (exports_at it written after exit done.1) done.0
-
-  certifies_at : (run : ℕ) (written after : Option (List ℕ)) (exit : Exit) → Certifies (FromOpened old new) run written after exit → Certifies (λ Is. Is s) run written after exit
-  certifies_at run written after exit (inl (text, at, reported)) = inl (text, of_opened (IsCertificate run text) at, reported)
-  certifies_at run written after exit (inr (is, silent, there)) = inr (is, silent, of_opened (λ t. HasCertificate t run) there)
-
-  certificate_left : (run : ℕ) (written after : Option (List ℕ)) (exit : Exit) → CertificateEnds run old new written after exit → LeavesSo (ReadsAt (Certifies (λ Is. Is s) run written after exit) written after exit s)
-  certificate_left run written after exit (inl none) = fault_left (ReadsAt (Certifies (λ Is. Is s) run written after exit) written after exit s) written after exit (λ alone. inl alone) none
-  certificate_left run written after exit (inr done) = reads_left (Certifies (λ Is. Is s) run written after exit) written after exit (certifies_at run written after exit done.1) done.0
+  certificate_left : (run : ℕ) (written after : Option (List ℕ)) (exit : Exit) → CertificateEnds run old new written after exit → LeavesSo (ReadsAt (Certifies s.office run written after exit) written after exit s)
+  certificate_left run written after exit (inl none) = fault_left (ReadsAt (Certifies s.office run written after exit) written after exit s) written after exit (λ alone. inl alone) none
+  certificate_left run written after exit (inr (o, opened, done)) =
+      reads_left (Certifies s.office run written after exit) written after exit (subst (λ (x : Office). Certifies x run written after exit) (sym (opened.is s was)) done) o opened
 
   -- ---- apply
 
@@ -231,17 +223,17 @@ module _ (stay : StaySound) (ends : IsEnded) (At : Trees → State → Type 0) (
             | inr next ↦ (after_acts s (take (n + 1) acts), inr (done _ (inr refl)), next)
           ]
 
-      performs_left : (exit : Exit) → Performs (FromOpened old new) acts new written after exit → LeavesSo (ActsLeft exit)
-      performs_left exit it = came_left exit it.outcome (of_opened (λ t. ActsCameTo t acts it.outcome new) it.came) it.reported
+      performs_left : (exit : Exit) → Performs (WasFound old new) acts new written after exit → LeavesSo (ActsLeft exit)
+      performs_left exit it = came_left exit it.outcome (it.came s was) it.reported
 
     not_read : (exit : Exit) → IsUnread text exit → IsNotApplied text exit
     not_read exit (inl why) = inr (inr why)
     not_read exit (inr is) = inl (fault.Memory, is)
 
-    applies_left : (exit : Exit) → EndsOpenFailed old new written after exit ⊎ IsRestKept old new × Applies (FromOpened old new) text new written after exit → LeavesSo (ActsLeft exit)
+    applies_left : (exit : Exit) → EndsOpenFailed old new written after exit ⊎ WasOpened old new × Applies (WasFound old new) text new written after exit → LeavesSo (ActsLeft exit)
     applies_left exit (inl none) = fault_left (ActsLeft exit) written after exit (λ alone. inl (alone.untouched, inl (alone.fault, alone.reported))) none
-    applies_left exit (inr (kept, inl unread)) = untouched (ActsLeft exit) written after (λ same. inl (same, not_read exit unread.0)) unread.2 (has_rows s sound (of_opened (λ t. ContainsRows (rows_of t) new) unread.1))
-    applies_left exit (inr (kept, inr it)) = performs_left it.0 it.1 exit it.2
+    applies_left exit (inr (opened, inl none)) = untouched (ActsLeft exit) written after (λ same. inl (same, not_read exit none.why)) none.silent (has_rows s sound (none.rows s was))
+    applies_left exit (inr (opened, inr it)) = performs_left it.0 it.1 exit it.2
 
   -- ---- import
 
@@ -334,9 +326,9 @@ module _ (stay : StaySound) (ends : IsEnded) (At : Trees → State → Type 0) (
     imports_left exit (Err (import.Fault f)) is (fs, reported, u, done, lines, inr it) = cut_row exit fs reported u it.0 f is (fault_not_all f exit is) it.1 done lines it.2
     imports_left exit (Err import.Io) is (fs, reported, u, prefix, done, holds, out) = added exit (Err import.Io) is fs reported u tt (λ says. absurd (file_not_all exit is says)) prefix done (inr (is, out)) holds
 
-    import_left : (exit : Exit) → EndsOpenFailed old new written after exit ⊎ ImportsAt (FromOpened old new) day text new written after exit → LeavesSo (RowsLeft exit)
+    import_left : (exit : Exit) → EndsOpenFailed old new written after exit ⊎ RepresentSome old new × ImportsAt (WasFound old new) day text new written after exit → LeavesSo (RowsLeft exit)
     import_left exit (inl none) = fault_left (RowsLeft exit) written after exit (λ alone. inl (alone.untouched, inl (alone.fault, alone.reported))) none
-    import_left exit (inr (done, is, it)) = imports_left exit done is (of_opened (AreImported day text done new written after) it)
+    import_left exit (inr (found, (done, is, it))) = imports_left exit done is (it s was)
 
   -- ---- resume
 
@@ -353,17 +345,15 @@ module _ (stay : StaySound) (ends : IsEnded) (At : Trees → State → Type 0) (
           has_rows (whole s run) (subst IsSound (sym is) (sound_steps stay n s sound)) holds db may,
         )
 
-    resumes_left : Resumes (FromOpened old new) new written after exit → LeavesSo RunLeftSo
-    resumes_left (run_closed run, it, reported) db may = let at = of_opened (RunLeft (run_closed run) new) it in whole_left run at.fits reported at.leaves db may
-    resumes_left (none_open, it, reported) db may =
-        let at = of_opened (RunLeft none_open new) it in
+    run_left : (o : RunOutcome) → RunLeft o new s → IsRunReported o written after exit → LeavesSo RunLeftSo
+    run_left (run_closed run) at reported db may = whole_left run at.fits reported at.leaves db may
+    run_left none_open at reported db may =
         let not_done : exit ≡ how.Done → ⊥ = λ done. let other : how.Refused refused.NoRun ≡ how.Done = sym reported.0 ∙ done in cc in (
           s,
           inr (record { outcome = none_open; fits = at.fits; reported = reported; count = 0; steps = refl; state = refl; closed = λ done. absurd (not_done done) }),
           has_rows s sound at.leaves db may,
         )
-    resumes_left (run_stopped f, it, reported) db may =
-        let at = of_opened (RunLeft (run_stopped f) new) it in
+    run_left (run_stopped f) at reported db may =
         let n = at.leaves.0 in
         let not_done : exit ≡ how.Done → ⊥ = λ done. let other : how.Fault f ≡ how.Done = sym reported.0 ∙ done in cc in
         let taken : (k : ℕ) → IsRunResumed written after exit s (after_steps s k) = λ k. record { outcome = run_stopped f; fits = tt; reported = reported; count = k; steps = refl; state = tt; closed = λ done. absurd (not_done done) } in
@@ -374,12 +364,12 @@ module _ (stay : StaySound) (ends : IsEnded) (At : Trees → State → Type 0) (
 
     resume_left : ResumeEnds old new written after exit → LeavesSo RunLeftSo
     resume_left (inl none) = fault_left RunLeftSo written after exit (λ alone. inl alone) none
-    resume_left (inr it) = resumes_left it.1
+    resume_left (inr (opened, it)) = run_left it.outcome (it.came s was) it.reported
 
 -- ---- each command
 
 module _ (stay : StaySound) (ends : IsEnded) (At : Trees → State → Type 0) (office : (db : Trees) (u : State) → IsOfficeAt db u → At db u) {S : Type 0} (g : Ghosts S) (old new : Held S) (s : State) (sound : IsSound s)
-    (of_opened : (P : State → Type 0) → FromOpened (state g old) (state g new) P → P s) (before : (db : Trees) → (state g old).may_leave db → At db s)
+    (was : WasFound (state g old) (state g new) s) (before : (db : Trees) → (state g old).may_leave db → At db s)
     (at_unopened : (f : Fault) → OfficeOpenFailed f (state g old) (state g new) → (db : Trees) → (state g new).may_leave db → At db s) where
   -- whatever a crash leaves of it is at a state of this kind
   abbrev LeftSo : (State → Type 0) → Held S → Type 0
@@ -398,14 +388,14 @@ module _ (stay : StaySound) (ends : IsEnded) (At : Trees → State → Type 0) (
   command_so (command.due unit count offset day) text written after exit it = same_held (IsUntouched written after s) (refl, it.2) it.1
   command_so (command.plan file) text written after exit it = same_held (IsUntouched written after s) (refl, it.2) it.1
   command_so (command.serve file port count) text written after exit it = same_held (IsUntouched written after s) (refl, it.2) it.1
-  command_so (command.init file) text written after exit it = init_left stay ends At office (state g old) (state g new) s sound of_opened at_unopened written after exit it
+  command_so (command.init file) text written after exit it = init_left stay ends At office (state g old) (state g new) s sound was at_unopened written after exit it
   command_so (command.apply file acts) text written after exit (inl none) = same_held (IsLeftBy (command.apply file acts) text written after exit s) (inl ((refl, none.2), no_text text exit none.0)) none.1
-  command_so (command.apply file acts) text written after exit (inr it) = applies_left stay ends At office (state g old) (state g new) s sound of_opened at_unopened text written after exit it
-  command_so (command.import file day csv) text written after exit it = import_left stay ends At office (state g old) (state g new) s sound of_opened at_unopened day (option_map strip_bom (Some text)) written after exit it
-  command_so (command.overdue file day n) text written after exit it = export_left stay ends At office (state g old) (state g new) s sound of_opened at_unopened (register.Overdue day n) written after exit it
-  command_so (command.export file register) text written after exit it = export_left stay ends At office (state g old) (state g new) s sound of_opened at_unopened register written after exit it
-  command_so (command.resume file) text written after exit it = resume_left stay ends At office (state g old) (state g new) s sound of_opened at_unopened written after exit it
-  command_so (command.certificate file run) text written after exit it = certificate_left stay ends At office (state g old) (state g new) s sound of_opened at_unopened run written after exit it
+  command_so (command.apply file acts) text written after exit (inr it) = applies_left stay ends At office (state g old) (state g new) s sound was at_unopened text written after exit it
+  command_so (command.import file day csv) text written after exit it = import_left stay ends At office (state g old) (state g new) s sound was at_unopened day (option_map strip_bom (Some text)) written after exit it
+  command_so (command.overdue file day n) text written after exit it = export_left stay ends At office (state g old) (state g new) s sound was at_unopened (register.Overdue day n) written after exit it
+  command_so (command.export file register) text written after exit it = export_left stay ends At office (state g old) (state g new) s sound was at_unopened register written after exit it
+  command_so (command.resume file) text written after exit it = resume_left stay ends At office (state g old) (state g new) s sound was at_unopened written after exit it
+  command_so (command.certificate file run) text written after exit it = certificate_left stay ends At office (state g old) (state g new) s sound was at_unopened run written after exit it
 
 -- over an office at rest
 pub command_left : IsOneDatabase → StaySound → IsEnded → {S : Type 0} (g : Ghosts S) (old new : Held S) (s : State) → HasCleanDisk (state g new) → IsSound s → (ed : SchemaVersion) → IsAtRestOver ed (state g old) → RepresentsRowsIn ed (rows_of s) (state g old).now.trees
@@ -413,5 +403,5 @@ pub command_left : IsOneDatabase → StaySound → IsEnded → {S : Type 0} (g :
 command_left one stay ends g old new s clean sound ed rest rows order text written after exit it =
     let was = state g old in
     let is = state g new in
-    command_so stay ends IsOfficeAt (λ db u at. at) g old new s sound (λ P opened. of_opened one stay ends was is s clean sound ed P rest rows opened) (at_before one stay ends was is s clean sound ed rest rows)
+    command_so stay ends IsOfficeAt (λ db u at. at) g old new s sound (was_found one stay ends was is s clean sound ed rest rows) (at_before one stay ends was is s clean sound ed rest rows)
     (λ f unopened. at_unopened one stay ends was is s clean sound ed f rest rows unopened) order text written after exit it

@@ -9,11 +9,11 @@ use Rattle.office_desk.specs.Opening.{Opens}
 use Rattle.office_wire.specs.Connections.{Turn, Turns}
 use Rattle.office_commands.specs.Serving.{IsDeskOf, ServesAt}
 use Rattle.office_commands.specs.declared.exit.Exit.{Exit}
-use Rattle.office_commands.proofs.Desks.{desk_at}
+use Rattle.office_commands.proofs.Desks.{desk_at, represent_some}
 
 -- a desk that was opened over a connection is the one of it that a service has
 pub desk_of : {S : Type 0} (g : Ghosts S) (conn : Held S) (desk : DeskState S) → Opens g conn desk → IsDeskOf g conn desk
-desk_of g conn desk it = record { is_open = it.is_open; opened = desk_at g conn desk it }
+desk_of g conn desk it = record { is_open = it.is_open; found = represent_some g conn desk it (state g desk.connection) (λ clean. clean); is_at = desk_at g conn desk it (state g desk.connection) (λ clean. clean) }
 
 pub clean_turn : {S : Type 0} (g : Ghosts S) (status : Result ℕ Io) (old new : DeskState S) → Turn g status old new → HasCleanDisk (state g new.connection) → HasCleanDisk (state g old.connection)
 clean_turn g status old new (inl failed) clean = subst (λ (d : DeskState _). HasCleanDisk (state g d.connection)) failed.1 clean

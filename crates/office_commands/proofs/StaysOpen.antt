@@ -5,12 +5,10 @@ use Rattle.csv.specs.Reading.{strip_bom}
 use Rattle.sqlite.specs.Held.{Held, state}
 use Rattle.sqlite.specs.State.{State as FileState}
 use Rattle.sqlite_trees.specs.declared.store.Store.{Ghosts}
-use Rattle.office_rules.specs.Rows.{rows_of}
-use Rattle.office_rules.specs.State.{State}
+use Rattle.office_rules.specs.State.{Office, State}
 use Rattle.office_rules.specs.declared.act.Act.{Act}
-use Rattle.office_store.specs.RepresentsRows.{ContainsRows}
 use Rattle.office_desk.specs.Outcomes.{ActsCameTo, ActsOutcome, all_done, answers_of, stopped}
-use Rattle.office_desk.specs.Resumptions.{RunLeft, none_open, run_closed, run_stopped}
+use Rattle.office_desk.specs.Resumptions.{RunLeft, RunOutcome, none_open, run_closed, run_stopped}
 use Rattle.office_json.specs.Answers.{answer_lines}
 use Rattle.office_wire.specs.declared.record_import.ImportStop.{ImportStop}
 use Rattle.office_wire.specs.declared.record_import.ImportStop.TheVariants as import
@@ -21,20 +19,17 @@ use Rattle.office_commands.specs.Calling.{Reports}
 use Rattle.office_commands.specs.ExitStatuses.{exit_of_acts}
 use Rattle.office_commands.specs.FileAlone.{IsFaultless}
 use Rattle.office_commands.specs.Importing.{AreImported, ImportEnds, exit_of_import}
-use Rattle.office_commands.specs.Opening.{EndsOpenFailed, FromOpened, IsOpened}
-use Rattle.office_commands.specs.Resuming.{ResumeEnds, Resumes}
+use Rattle.office_commands.specs.Opening.{EndsOpenFailed, IsOpened, WasFound}
+use Rattle.office_commands.specs.Resuming.{IsRunReported, ResumeEnds}
 use Rattle.office_commands.specs.Running.{RunEnds}
 use Rattle.office_commands.specs.declared.exit.Exit.{Exit}
 
-module _ (old new : FileState) (s : State) (of_opened : (P : State → Type 0) → FromOpened old new P → P s) (written after : Option (List ℕ)) (exit : Exit) (fine : IsFaultless exit) where
+module _ (old new : FileState) (s : State) (was : WasFound old new s) (written after : Option (List ℕ)) (exit : Exit) (fine : IsFaultless exit) where
   abbrev IsOn : Type 0
   IsOn = IsTrue new.is_open
 
   not_opened : EndsOpenFailed old new written after exit → IsOn
   not_opened none = absurd (fine.0 none.0 none.1)
-
-  rows_on : FromOpened old new (λ t. ContainsRows (rows_of t) new) → IsOn
-  rows_on it = (of_opened (λ t. ContainsRows (rows_of t) new) it).rest.is_open
 
   -- ---- apply
 
@@ -45,8 +40,8 @@ module _ (old new : FileState) (s : State) (of_opened : (P : State → Type 0) �
 
   text_on : (text : List ℕ) → TextEnds text old new written after exit → IsOn
   text_on text (inl none) = not_opened none
-  text_on text (inr (kept, inl unread)) = rows_on unread.1
-  text_on text (inr (kept, inr it)) = came_on it.0 it.2.outcome it.2.reported (of_opened (λ t. ActsCameTo t it.0 it.2.outcome new) it.2.came)
+  text_on text (inr (opened, inl it)) = (it.rows s was).rest.is_open
+  text_on text (inr (opened, inr it)) = came_on it.0 it.2.outcome it.2.reported (it.2.came s was)
 
   -- ---- import
 
@@ -59,36 +54,36 @@ module _ (old new : FileState) (s : State) (of_opened : (P : State → Type 0) �
 
   import_on : (day : ℤ) (text : Option (List ℕ)) → ImportEnds day text old new written after exit → IsOn
   import_on day text (inl none) = not_opened none
-  import_on day text (inr (done, is, it)) = imported_on day (option_map strip_bom text) done is (of_opened (AreImported day (option_map strip_bom text) done new written after) it)
+  import_on day text (inr (found, (done, is, it))) = imported_on day (option_map strip_bom text) done is (it s was)
 
   -- ---- resume
 
-  resumes_on : Resumes (FromOpened old new) new written after exit → IsOn
-  resumes_on (run_closed run, it, reported) = (of_opened (RunLeft (run_closed run) new) it).leaves.rest.is_open
-  resumes_on (none_open, it, reported) = (of_opened (RunLeft none_open new) it).leaves.rest.is_open
-  resumes_on (run_stopped f, it, reported) = absurd (fine.0 f reported.0)
+  run_on : (o : RunOutcome) → RunLeft o new s → IsRunReported o written after exit → IsOn
+  run_on (run_closed run) it reported = it.leaves.rest.is_open
+  run_on none_open it reported = it.leaves.rest.is_open
+  run_on (run_stopped f) it reported = absurd (fine.0 f reported.0)
 
   resume_on : ResumeEnds old new written after exit → IsOn
   resume_on (inl none) = not_opened none
-  resume_on (inr it) = resumes_on it.1
+  resume_on (inr (opened, it)) = run_on it.outcome (it.came s was) it.reported
 
   -- ---- the readings
 
-  opened_on : IsOpened old new → IsOn
-  opened_on it = rows_on it.opened
+  opened_on : (office : Office) → IsOpened old new office → IsOn
+  opened_on office it = (it.rows s was).rest.is_open
 
 -- ---- each command
 
-module _ {S : Type 0} (g : Ghosts S) (old new : Held S) (s : State) (on : IsTrue (state g old).is_open) (of_opened : (P : State → Type 0) → FromOpened (state g old) (state g new) P → P s)
+module _ {S : Type 0} (g : Ghosts S) (old new : Held S) (s : State) (on : IsTrue (state g old).is_open) (was : WasFound (state g old) (state g new) s)
     (text : List ℕ) (written after : Option (List ℕ)) (exit : Exit) (fine : IsFaultless exit) where
   same_on : new ≡ old → IsTrue (state g new).is_open
   same_on same = subst (λ (h : Held S). IsTrue (state g h).is_open) (sym same) on
 
   reading_on : EndsOpenFailed (state g old) (state g new) written after exit → IsTrue (state g new).is_open
-  reading_on none = not_opened (state g old) (state g new) s of_opened written after exit fine none
+  reading_on none = not_opened (state g old) (state g new) s was written after exit fine none
 
-  done_on : IsOpened (state g old) (state g new) → IsTrue (state g new).is_open
-  done_on it = opened_on (state g old) (state g new) s of_opened written after exit fine it
+  done_on : (office : Office) → IsOpened (state g old) (state g new) office → IsTrue (state g new).is_open
+  done_on office it = opened_on (state g old) (state g new) s was written after exit fine office it
 
   pub command_on : (order : Command) → RunEnds g order (Some text) old new written after exit → IsTrue (state g new).is_open
   command_on command.nothing it = same_on it.1
@@ -96,14 +91,14 @@ module _ {S : Type 0} (g : Ghosts S) (old new : Held S) (s : State) (on : IsTrue
   command_on (command.plan file) it = same_on it.1
   command_on (command.serve file port count) it = same_on it.1
   command_on (command.init file) (inl none) = reading_on none
-  command_on (command.init file) (inr it) = done_on it.0
+  command_on (command.init file) (inr it) = done_on it.0 it.1
   command_on (command.apply file acts) (inl none) = same_on none.1
-  command_on (command.apply file acts) (inr it) = text_on (state g old) (state g new) s of_opened written after exit fine text it
-  command_on (command.import file day csv) it = import_on (state g old) (state g new) s of_opened written after exit fine day (Some text) it
+  command_on (command.apply file acts) (inr it) = text_on (state g old) (state g new) s was written after exit fine text it
+  command_on (command.import file day csv) it = import_on (state g old) (state g new) s was written after exit fine day (Some text) it
   command_on (command.overdue file day n) (inl none) = reading_on none
-  command_on (command.overdue file day n) (inr it) = done_on it.0
+  command_on (command.overdue file day n) (inr it) = done_on it.0 it.1
   command_on (command.export file register) (inl none) = reading_on none
-  command_on (command.export file register) (inr it) = done_on it.0
-  command_on (command.resume file) it = resume_on (state g old) (state g new) s of_opened written after exit fine it
+  command_on (command.export file register) (inr it) = done_on it.0 it.1
+  command_on (command.resume file) it = resume_on (state g old) (state g new) s was written after exit fine it
   command_on (command.certificate file run) (inl none) = reading_on none
-  command_on (command.certificate file run) (inr it) = done_on it.0
+  command_on (command.certificate file run) (inr it) = done_on it.0 it.1

@@ -15,14 +15,14 @@ use Rattle.office_commands.specs.Calling.{Reports}
 use Rattle.office_commands.specs.ExitStatuses.{exit_of_acts}
 use Rattle.office_commands.specs.declared.exit.Exit.{Exit}
 use Rattle.office_commands.specs.declared.exit.Exit.TheVariants as how
-use Rattle.office_commands.specs.Opening.{EndsOpenFailed, FromOpened, IsRestKept}
+use Rattle.office_commands.specs.Opening.{EndsOpenFailed, WasFound, WasOpened}
 
--- acts were performed: what they came to is reported; and they came to it at the state of the desk
-pub record Performs (AtState : (State → Type 0) → Type 0) (acts : List Act) (new : FileState)
-    (written after : Option (List ℕ)) (exit : Exit) : Type 0 where
+-- acts were performed, and what they came to is reported; they came to it from the state at which the office was
+pub record Performs (Was : State → Type 0) (acts : List Act) (new : FileState) (written after : Option (List ℕ))
+    (exit : Exit) : Type 0 where
   pub outcome : ActsOutcome
   pub reported : Reports (answer_lines (answers_of outcome)) (exit_of_acts outcome) written after exit
-  pub came : AtState (λ t. ActsCameTo t acts outcome new)
+  pub came : (s : State) → Was s → ActsCameTo s acts outcome new
 
 -- how a text that is no list of acts is reported
 abbrev pub exit_of_none : NoActs → Exit
@@ -34,18 +34,24 @@ abbrev pub IsUnread : List ℕ → Exit → Type 0
 IsUnread text exit =
     ((why : NoActs) × (acts_in text ≡ Err why) × (exit ≡ exit_of_none why)) ⊎ (exit ≡ how.Fault fault.Memory)
 
--- the text was not read as acts, and nothing was done; or its acts were performed
-abbrev pub Applies : ((State → Type 0) → Type 0) → List ℕ → FileState → Option (List ℕ) → Option (List ℕ) → Exit
-    → Type 0
-Applies AtState text new written after exit =
-    IsUnread text exit × AtState (λ t. ContainsRows (rows_of t) new) × (after ≡ written)
-    ⊎ ((acts : List Act) × (acts_in text ≡ Ok acts) × Performs AtState acts new written after exit)
+-- the text was not read as acts, which is reported, and nothing was done
+pub record IsNotPerformed (Was : State → Type 0) (text : List ℕ) (new : FileState) (written after : Option (List ℕ))
+    (exit : Exit) : Type 0 where
+  pub why : IsUnread text exit
+  pub rows : (s : State) → Was s → ContainsRows (rows_of s) new
+  pub silent : after ≡ written
 
--- `apply FILE ACTS` where the text of acts was read, by the exit; what else the file has is kept
+-- that, or the acts of the text were performed; the office was at a state of this kind
+abbrev pub Applies : (State → Type 0) → List ℕ → FileState → Option (List ℕ) → Option (List ℕ) → Exit → Type 0
+Applies Was text new written after exit =
+    IsNotPerformed Was text new written after exit
+    ⊎ ((acts : List Act) × (acts_in text ≡ Ok acts) × Performs Was acts new written after exit)
+
+-- `apply FILE ACTS` once the text of acts was read, by the exit
 abbrev pub TextEnds : List ℕ → FileState → FileState → Option (List ℕ) → Option (List ℕ) → Exit → Type 0
 TextEnds text old new written after exit =
     EndsOpenFailed old new written after exit
-    ⊎ IsRestKept old new × Applies (FromOpened old new) text new written after exit
+    ⊎ WasOpened old new × Applies (WasFound old new) text new written after exit
 
 -- the text of acts was not read to its end, or memory ran out for it, and nothing was done
 abbrev pub IsNoText : {S : Type 0} → Held S → Held S → Option (List ℕ) → Option (List ℕ) → Exit → Type 0

@@ -2,7 +2,7 @@
 use Rattle.std.specs.Prelude.{◌≡◌, ◌⊎◌, ℕ, List, Option, Result, Ok, Err}
 use Rattle.std.specs.Io.KnownBytes.{Appends}
 use Rattle.sqlite.specs.State.{State as FileState}
-use Rattle.office_rules.specs.State.{Office, State}
+use Rattle.office_rules.specs.State.{Office}
 use Rattle.office_store.specs.declared.fault.Fault.TheVariants as fault
 use Rattle.office_wire.specs.Exporting.{IsDueRegister, IsEntryRegister, IsOverdueRegister, IsSomeOut}
 use Rattle.office_wire.specs.declared.registers.ExportStop.{ExportStop}
@@ -11,7 +11,7 @@ use Rattle.office_command_line.specs.declared.register.Register.{Register}
 use Rattle.office_command_line.specs.declared.register.Register.TheVariants as register
 use Rattle.office_commands.specs.declared.exit.Exit.{Exit}
 use Rattle.office_commands.specs.declared.exit.Exit.TheVariants as how
-use Rattle.office_commands.specs.Opening.{EndsOpenFailed, FromOpened, IsOpened}
+use Rattle.office_commands.specs.Opening.{EndsOpenFailed, IsOpened}
 
 -- what stopped an export is reported as such
 abbrev pub exit_of_export : Result (Unit {0}) ExportStop → Exit
@@ -27,18 +27,17 @@ IsRegisterText (register.Overdue day n) = IsOverdueRegister day n
 
 -- the register of the office was written
 abbrev pub IsRegister : Register → Option (List ℕ) → Option (List ℕ) → Office → Type 0
-IsRegister it written after s = (text : List ℕ) × IsRegisterText it s text × Appends written after text
+IsRegister it written after office = (text : List ℕ) × IsRegisterText it office text × Appends written after text
 
--- a register was written at an open desk; or the writer failed, or memory ran out, and its first bytes went out, or none;
--- AtState P is that P holds of the state at which the desk was
-abbrev pub Exports : ((State → Type 0) → Type 0) → Register → Option (List ℕ) → Option (List ℕ) → Exit → Type 0
-Exports AtState it written after exit =
-    (exit ≡ how.Done) × AtState (λ s. IsRegister it written after s.office)
-    ⊎ ((exit ≡ how.File) ⊎ (exit ≡ how.Fault fault.Memory))
-    × AtState (λ s. IsSomeOut (IsRegisterText it) s.office written after)
+-- a register of the office was written; or the writer failed, or memory ran out, and its first bytes went out, or none
+abbrev pub Exports : Office → Register → Option (List ℕ) → Option (List ℕ) → Exit → Type 0
+Exports office it written after exit =
+    (exit ≡ how.Done) × IsRegister it written after office
+    ⊎ ((exit ≡ how.File) ⊎ (exit ≡ how.Fault fault.Memory)) × IsSomeOut (IsRegisterText it) office written after
 
 -- `export FILE entries`, `export FILE DAY` or `overdue FILE DAY COUNT`, by its exit; an office of version 2 that was
 -- opened stays as it was
 abbrev pub ExportEnds : Register → FileState → FileState → Option (List ℕ) → Option (List ℕ) → Exit → Type 0
 ExportEnds it old new written after exit =
-    EndsOpenFailed old new written after exit ⊎ IsOpened old new × Exports (FromOpened old new) it written after exit
+    EndsOpenFailed old new written after exit
+    ⊎ ((office : Office) × IsOpened old new office × Exports office it written after exit)

@@ -19,7 +19,7 @@ use Rattle.office_csv.specs.ImportText.{LacksHeader}
 use Rattle.office_wire.specs.declared.record_import.ImportStop.{ImportStop}
 use Rattle.office_wire.specs.declared.record_import.ImportStop.TheVariants as import
 use Rattle.office_wire.specs.Importing.{AreAllRows, AreLinesOut, ArePrefixRows, AreRowsBeforeBad, AreRowsDone, AreSomeRows, lines_from, refused_count}
-use Rattle.office_commands.specs.Opening.{EndsOpenFailed, FromOpened}
+use Rattle.office_commands.specs.Opening.{EndsOpenFailed, RepresentSome, WasFound}
 use Rattle.office_commands.specs.declared.exit.Exit.{Exit}
 use Rattle.office_commands.specs.declared.exit.Exit.TheVariants as how
 
@@ -83,16 +83,16 @@ AreImported day text (Err (import.Row number)) = AreSavedBeforeBad day text numb
 AreImported day text (Err (import.Fault f)) = AreCutShort day text f
 AreImported day text (Err import.Io) = AreUnreported day text
 
--- the rows of a text at an open desk came to this, and that is the exit; AtState P is that P holds of the state at
--- which the desk was
-abbrev pub ImportsAt : ((State → Type 0) → Type 0) → ℤ → Option (List ℕ) → FileState → Option (List ℕ) → Option (List ℕ)
-    → Exit → Type 0
-ImportsAt AtState day text new written after exit =
-    (done : Result ℕ ImportStop) × (exit ≡ exit_of_import done) × AtState (AreImported day text done new written after)
+-- the rows of a text came to this from the state at which the office was, and that is the exit
+abbrev pub ImportsAt : (State → Type 0) → ℤ → Option (List ℕ) → FileState → Option (List ℕ) → Option (List ℕ) → Exit
+    → Type 0
+ImportsAt Was day text new written after exit =
+    (done : Result ℕ ImportStop) × (exit ≡ exit_of_import done)
+    × ((s : State) → Was s → AreImported day text done new written after s)
 
 -- `import FILE DAY CSV`, by the exit; a byte order mark at the start of the text is passed over
 abbrev pub ImportEnds : ℤ → Option (List ℕ) → FileState → FileState → Option (List ℕ) → Option (List ℕ) → Exit
     → Type 0
 ImportEnds day text old new written after exit =
     EndsOpenFailed old new written after exit
-    ⊎ ImportsAt (FromOpened old new) day (option_map strip_bom text) new written after exit
+    ⊎ RepresentSome old new × ImportsAt (WasFound old new) day (option_map strip_bom text) new written after exit

@@ -176,11 +176,11 @@ IsLeftBy (command.resume file) text written after exit s u =
 IsLeftBy (command.init file) text written after exit s u =
     ReadsAt (IsVersionReported written after exit) written after exit s u
 IsLeftBy (command.export file register) text written after exit s u =
-    ReadsAt (Exports (λ Is. Is s) register written after exit) written after exit s u
+    ReadsAt (Exports s.office register written after exit) written after exit s u
 IsLeftBy (command.overdue file day n) text written after exit s u =
-    ReadsAt (Exports (λ Is. Is s) (register.Overdue day n) written after exit) written after exit s u
+    ReadsAt (Exports s.office (register.Overdue day n) written after exit) written after exit s u
 IsLeftBy (command.certificate file run) text written after exit s u =
-    ReadsAt (Certifies (λ Is. Is s) run written after exit) written after exit s u
+    ReadsAt (Certifies s.office run written after exit) written after exit s u
 IsLeftBy (command.serve file port count) text written after exit s u = IsUntouched written after s u
 IsLeftBy (command.plan file) text written after exit s u = IsUntouched written after s u
 IsLeftBy (command.due unit count offset day) text written after exit s u = IsUntouched written after s u

@@ -8,7 +8,7 @@ use Rattle.office_desk.specs.Resumptions.{RunLeft, RunOutcome, none_open, run_cl
 use Rattle.office_commands.specs.Calling.{Reports}
 use Rattle.office_commands.specs.declared.exit.Exit.{Exit}
 use Rattle.office_commands.specs.declared.exit.Exit.TheVariants as how
-use Rattle.office_commands.specs.Opening.{EndsOpenFailed, FromOpened, IsRestKept}
+use Rattle.office_commands.specs.Opening.{EndsOpenFailed, WasFound, WasOpened}
 
 -- the line that reports the run that was closed
 abbrev pub certificate_line : ℕ → List ℕ
@@ -20,12 +20,15 @@ IsRunReported (run_closed run) written after exit = Reports (certificate_line ru
 IsRunReported none_open written after exit = (exit ≡ how.Refused refused.NoRun) × (after ≡ written)
 IsRunReported (run_stopped f) written after exit = (exit ≡ how.Fault f) × (after ≡ written)
 
--- a resumption at an open desk came to this; AtState P is that P holds of the state at which the desk was
-abbrev pub Resumes : ((State → Type 0) → Type 0) → FileState → Option (List ℕ) → Option (List ℕ) → Exit → Type 0
-Resumes AtState new written after exit = (o : RunOutcome) × AtState (RunLeft o new) × IsRunReported o written after exit
+-- the open run was resumed, and what that came to is reported; it came to it from the state at which the office was
+pub record Resumes (Was : State → Type 0) (new : FileState) (written after : Option (List ℕ)) (exit : Exit) : Type 0
+  where
+    pub outcome : RunOutcome
+    pub reported : IsRunReported outcome written after exit
+    pub came : (s : State) → Was s → RunLeft outcome new s
 
--- `resume FILE`, by its exit; what else the file has is kept
+-- `resume FILE`, by its exit
 abbrev pub ResumeEnds : FileState → FileState → Option (List ℕ) → Option (List ℕ) → Exit → Type 0
 ResumeEnds old new written after exit =
     EndsOpenFailed old new written after exit
-    ⊎ IsRestKept old new × Resumes (FromOpened old new) new written after exit
+    ⊎ WasOpened old new × Resumes (WasFound old new) new written after exit

@@ -4,19 +4,21 @@ use Rattle.std.specs.Io.KnownBytes.{Appends}
 use Rattle.sqlite_trees.specs.declared.store.Store.{Ghosts}
 use Rattle.sqlite.specs.Held.{Held, state}
 use Rattle.office_base.specs.Output.{AppendsSome}
+use Rattle.office_rules.specs.State.{State}
 use Rattle.office_desk.specs.Desk.{DeskState}
 use Rattle.office_desk.specs.Leaving.{IsAt}
 use Rattle.office_wire.specs.Connections.{Turns}
 use Rattle.office_commands.specs.declared.exit.Exit.{Exit}
 use Rattle.office_commands.specs.declared.exit.Exit.TheVariants as how
 use Rattle.office_commands.specs.ExitStatuses.{exit_of_service}
-use Rattle.office_commands.specs.Opening.{EndsOpenFailed, FromOpened}
+use Rattle.office_commands.specs.Opening.{EndsOpenFailed, RepresentSome, WasFound}
 use Rattle.office_commands.specs.Running.{listening_line}
 
 -- a desk was opened over a connection, at the state with which the office was opened
 pub record IsDeskOf {S : Type 0} (g : Ghosts S) (conn : Held S) (desk : DeskState S) : Type 0 where
   pub is_open : desk.is_poisoned ≡ false
-  pub opened : FromOpened (state g conn) (state g desk.connection) (λ t. IsAt g t desk)
+  pub found : RepresentSome (state g conn) (state g desk.connection)
+  pub is_at : (s : State) → WasFound (state g conn) (state g desk.connection) s → IsAt g s desk
 
 -- a desk was served, by the exit: the first bytes of the line that reports where it listens went out, or none, and
 -- nothing is served; or connections were, one after another, as many as were asked for or fewer where the desk was

@@ -2,8 +2,9 @@
 ghost use Rattle.std.specs.Prelude.{◌≡◌, false};
 ghost use Rattle.sqlite.specs.Held.{state};
 ghost use Rattle.sqlite.specs.State.{HasCleanDisk};
-ghost use Rattle.office_desk.specs.Outcomes.{FromEach, SparesTheRest};
+ghost use Rattle.office_desk.specs.Outcomes.{SparesTheRest};
 ghost use Rattle.office_commands.specs.Applying.{Applies, ApplyEnds, TextEnds};
+ghost use Rattle.office_commands.specs.Opening.{WasAt};
 
 use crate::exit::Exit;
 use office_base::read_whole;
@@ -16,7 +17,7 @@ use std::io::{Read, Write};
 /// Does the acts of a text at a desk that is open, and reports their answers.
 fn apply_at<W: Write, S: Alter>(alloc: Global, desk: &mut Desk<S>, text: &[u8], out: &mut W) -> Exit
     requires { desk.old.is_poisoned ≡ false }
-    ensures done { Applies (FromEach S.Store desk.old desk.new) text.now
+    ensures done { Applies (WasAt S.Store desk.old desk.new) text.now
         (state S.Store desk.new.connection) (W.contents out.old) (W.contents out.new) result }
     ensures rest { SparesTheRest S.Store desk.old desk.new }
 {

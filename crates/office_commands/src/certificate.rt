@@ -2,7 +2,6 @@
 ghost use Rattle.std.specs.Prelude.{◌≡◌, false};
 ghost use Rattle.sqlite.specs.Held.{state};
 ghost use Rattle.sqlite.specs.State.{HasCleanDisk};
-ghost use Rattle.office_rules.specs.State.{State};
 ghost use Rattle.office_commands.specs.Calling.{Reports};
 ghost use Rattle.office_commands.specs.Certifying.{CertificateEnds, Certifies};
 
@@ -26,8 +25,7 @@ fn report_text<W: Write>(text: &str, out: &mut W) -> Exit
 /// Reports the certificate of that run at a desk that is open.
 fn certificate_at<W: Write, S: Alter>(desk: &Desk<S>, run: u32, out: &mut W) -> Exit
     requires { desk.now.is_poisoned ≡ false }
-    ensures { Certifies (λ P. (s : State) → s.office ≡ desk.now.office → P s) run
-        (W.contents out.old) (W.contents out.new) result }
+    ensures { Certifies desk.now.office run (W.contents out.old) (W.contents out.new) result }
 {
     match desk.certificate(run) {
         Ok(Some(text)) => report_text(text.as_str(), out),

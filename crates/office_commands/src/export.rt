@@ -2,7 +2,6 @@
 ghost use Rattle.std.specs.Prelude.{◌≡◌, false};
 ghost use Rattle.sqlite.specs.Held.{state};
 ghost use Rattle.sqlite.specs.State.{HasCleanDisk};
-ghost use Rattle.office_rules.specs.State.{State};
 ghost use Rattle.office_wire.specs.Exporting.{Exports as WritesText};
 ghost use Rattle.office_commands.specs.Exporting.{ExportEnds, Exports, IsRegisterText};
 
@@ -55,8 +54,8 @@ fn export_at<W: Write, S: Alter>(
     out: &mut W,
 ) -> Exit
     requires { desk.old.is_poisoned ≡ false }
-    ensures exports { Exports (λ P. (s : State) → s.office ≡ desk.old.office → P s) register
-        (W.contents out.old) (W.contents out.new) result }
+    ensures exports { Exports desk.old.office register (W.contents out.old) (W.contents out.new)
+        result }
     ensures kept { desk.new ≡ desk.old }
 {
     Exit::from(write_register(alloc, desk, register, out))

@@ -3,8 +3,8 @@ ghost use Rattle.std.specs.Prelude.{◌≡◌, false, option_map};
 ghost use Rattle.csv.specs.Reading.{strip_bom};
 ghost use Rattle.sqlite.specs.Held.{state};
 ghost use Rattle.sqlite.specs.State.{HasCleanDisk};
-ghost use Rattle.office_desk.specs.Outcomes.{FromEach};
 ghost use Rattle.office_commands.specs.Importing.{ImportEnds, ImportsAt};
+ghost use Rattle.office_commands.specs.Opening.{WasAt};
 
 use crate::exit::Exit;
 use office_days::Day;
@@ -41,7 +41,7 @@ fn import_at<R: Read, W: Write, S: Alter>(
     input: &mut R,
     out: &mut W,
 ) -> Exit
-    ensures done { ImportsAt (FromEach S.Store desk.old desk.new) day
+    ensures done { ImportsAt (WasAt S.Store desk.old desk.new) day
         (option_map strip_bom (R.remaining input.old)) (state S.Store desk.new.connection)
         (W.contents out.old) (W.contents out.new) result }
     ensures clean { HasCleanDisk (state S.Store desk.new.connection)

@@ -4,10 +4,11 @@ ghost use Rattle.std.specs.Io.KnownBytes.{Appends};
 ghost use Rattle.sqlite.specs.Held.{state};
 ghost use Rattle.sqlite.specs.State.{HasCleanDisk};
 ghost use Rattle.office_base.specs.Output.{AppendsSome};
-ghost use Rattle.office_desk.specs.Outcomes.{FromEach, SparesTheRest};
+ghost use Rattle.office_desk.specs.Outcomes.{SparesTheRest};
 ghost use Rattle.office_desk.specs.Resuming.{resumed_answer};
 ghost use Rattle.office_desk.specs.Resumptions.{run_outcome};
 ghost use Rattle.office_commands.specs.Calling.{Reports};
+ghost use Rattle.office_commands.specs.Opening.{WasAt};
 ghost use Rattle.office_commands.specs.Resuming.{IsRunReported, ResumeEnds, Resumes, certificate_line};
 
 use crate::exit::Exit;
@@ -63,7 +64,7 @@ fn report_answer<W: Write>(answer: Answer, out: &mut W) -> Exit
 /// Resumes the open run at a desk that is open.
 fn resume_at<W: Write, S: Alter>(desk: &mut Desk<S>, out: &mut W) -> Exit
     requires { desk.old.is_poisoned ≡ false }
-    ensures done { Resumes (FromEach S.Store desk.old desk.new) (state S.Store desk.new.connection)
+    ensures done { Resumes (WasAt S.Store desk.old desk.new) (state S.Store desk.new.connection)
         (W.contents out.old) (W.contents out.new) result }
     ensures rest { SparesTheRest S.Store desk.old desk.new }
 {

@@ -18,6 +18,7 @@ use Rattle.office_store.specs.declared.fault.Fault.TheVariants as fault
 use Rattle.office_life.specs.Standing.{Stage, StandsAt, unmade}
 use Rattle.office_command_line.specs.Orders as command
 use Rattle.office_evidence.specs.Truth.{IsTrueCertificate, IsTrueEntry}
+use Rattle.office_commands.specs.Certifying.{ReportsCertificate}
 use Rattle.office_commands.specs.FileHistory.{ActsOfRuns, FileHistory, FilesFollow, IsLeftAt, ProgramRun, ReportsContents, StateHistory, no_run, one_run, ran_command}
 use Rattle.office_commands.specs.declared.exit.Exit.TheVariants as how
 use Rattle.office_guarantees.specs.TrueFiles.{AccountFor, FilesAreTrue, FilesAreTrueSince, HasPrinted, IsTrueEvidence, IsTrueEvidenceSince}
@@ -63,14 +64,19 @@ module _ (stay : StaySound) (last : CertificatesLast) where
   abbrev IsPrintedAt : State → List Act → ℕ → Option (List ℕ) → Option (List ℕ) → Type 0
   IsPrintedAt s done run written after = (text : List ℕ) × Appends written after text × (get (after_acts s done).office.certificates run ≡ Some text)
 
+  -- by status 0, it is the one that is there
+  reported_done : (there : Option (List ℕ)) (written after : Option (List ℕ)) → ReportsCertificate there written after how.Done → (body : List ℕ) × Appends written after body × (there ≡ Some body)
+  reported_done None written after (says, silent) = let no : how.Done ≡ how.Refused refused.NoSuch = says in absurd cc
+  reported_done (Some body) written after (inl (out, done)) = (body, out, refl)
+  reported_done (Some body) written after (inr (some, failed)) = let no : how.Done ≡ how.File = failed in absurd cc
+
   -- the last run printed it
   printed_last : (s u : State) (run : ℕ) (file text : List ℕ) (written after : Option (List ℕ)) → IsLeftAt (ran_command (command.certificate file run) text written after how.Done) s u
       → (body : List ℕ) × Appends written after body × (get u.office.certificates run ≡ Some body)
   printed_last s u run file text written after (inl alone) = let no : how.Done ≡ how.Fault alone.fault = alone.reported in absurd cc
-  printed_last s u run file text written after (inr (inl (None, is, (says, silent)), same)) = let no : how.Done ≡ how.Refused refused.NoSuch = says in absurd cc
-  printed_last s u run file text written after (inr (inl (Some body, is, inl (out, done)), same)) = (body, out, ap (λ (x : State). get x.office.certificates run) same ∙ is)
-  printed_last s u run file text written after (inr (inl (Some body, is, inr (some, failed)), same)) = let no : how.Done ≡ how.File = failed in absurd cc
-  printed_last s u run file text written after (inr (inr (says, silent, there), same)) = let no : how.Done ≡ how.Fault fault.Memory = says in absurd cc
+  printed_last s u run file text written after (inr (inl reported, same)) =
+      let it = reported_done (get s.office.certificates run) written after reported in (it.0, it.1, ap (λ (x : State). get x.office.certificates run) same ∙ it.2)
+  printed_last s u run file text written after (inr (inr (there, says, silent), same)) = let no : how.Done ≡ how.Fault fault.Memory = says in absurd cc
 
   module _ (s : State) (sound : IsSound s) (run : ℕ) (file text : List ℕ) (written after : Option (List ℕ)) where
     abbrev printing : ProgramRun

@@ -1,11 +1,10 @@
 use Rattle.std.proofs.Common.{inl, inr, refl}
 use Rattle.sqlite.specs.Held.{state}
-use Rattle.office_desk.specs.Outcomes.{FromEach}
 use Rattle.office_commands.specs.Applying.{TextEnds}
-use Rattle.office_commands.specs.Opening.{FromOpened}
+use Rattle.office_commands.specs.Opening.{WasAt, WasFound}
 use Rattle.office_commands.proofs.Applications.{applies_of}
 use Rattle.office_commands.proofs.Callings.{clean_closed, once_closed, shield_closed}
-use Rattle.office_commands.proofs.Desks.{of_desk}
+use Rattle.office_commands.proofs.Desks.{represent_some, was_at}
 use Rattle.office_commands.proofs.KeptRest.{kept_after}
 use Rattle.office_commands.proofs.Unopened.{unopened}
 use Rattle.office_commands.proofs.apply.apply_text.Goals as goal
@@ -18,8 +17,11 @@ returns-in-Ok-clause-ends g c =
     once_closed _ _ c.close.ensures.same
     (λ h. TextEnds c.args.text.now (state g.S.Store c.args.conn) (state g.S.Store h) (g.W.Write.contents c.args.out.now) (g.W.Write.contents c.apply_at-exit.new.out) c.apply_at-exit.result)
     (inr (
-      kept_after g.S.Store c.args.conn c.in-Ok.desk opened desk spared.clean spared.rest,
-      applies_of (FromEach g.S.Store c.in-Ok.desk desk) (FromOpened (state g.S.Store c.args.conn) (state g.S.Store desk.connection)) (of_desk g.S.Store c.args.conn c.in-Ok.desk opened desk spared.clean)
+      record {
+        found = represent_some g.S.Store c.args.conn c.in-Ok.desk opened (state g.S.Store desk.connection) spared.clean;
+        rest = kept_after g.S.Store c.args.conn c.in-Ok.desk opened desk spared.clean spared.rest;
+      },
+      applies_of (WasAt g.S.Store c.in-Ok.desk desk) (WasFound (state g.S.Store c.args.conn) (state g.S.Store desk.connection)) (was_at g.S.Store c.args.conn c.in-Ok.desk opened desk spared.clean)
           _ _ _ _ _ c.apply_at-exit.ensures.done,
     ))
 

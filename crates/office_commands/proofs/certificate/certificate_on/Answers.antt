@@ -1,11 +1,8 @@
-use Rattle.std.proofs.Common.{◌≡◌, inl, inr, refl}
+use Rattle.std.proofs.Common.{inl, inr, refl}
 use Rattle.sqlite.specs.Held.{state}
-use Rattle.office_rules.specs.State.{State}
 use Rattle.office_commands.specs.Certifying.{CertificateEnds}
-use Rattle.office_commands.specs.Opening.{FromOpened}
 use Rattle.office_commands.proofs.Callings.{clean_closed, once_closed, shield_closed}
-use Rattle.office_commands.proofs.Certificates.{certifies_of}
-use Rattle.office_commands.proofs.Desks.{of_office, opened}
+use Rattle.office_commands.proofs.Desks.{opened}
 use Rattle.office_commands.proofs.Unopened.{unopened}
 use Rattle.office_commands.proofs.certificate.certificate_on.Goals as goal
 
@@ -15,11 +12,7 @@ returns-in-Ok-clause-ends g c =
     let desk = c.in-Ok.desk in
     once_closed _ _ c.close.ensures.same
     (λ h. CertificateEnds c.args.run (state g.S.Store c.args.conn) (state g.S.Store h) (g.W.Write.contents c.args.out.now) (g.W.Write.contents c.certificate_at-exit.new.out) c.certificate_at-exit.result)
-    (inr (
-      opened g.S.Store c.args.conn desk it,
-      certifies_of (λ (P : State → Type 0). (s : State) → s.office ≡ desk.office → P s) (FromOpened (state g.S.Store c.args.conn) (state g.S.Store desk.connection)) (of_office g.S.Store c.args.conn desk it)
-          c.args.run _ _ _ c.certificate_at-exit.ensures,
-    ))
+    (inr (desk.office, opened g.S.Store c.args.conn desk it, c.certificate_at-exit.ensures))
 
 pub returns-in-Ok-clause-clean : goal.returns-in-Ok-clause-clean
 returns-in-Ok-clause-clean g c = clean_closed g.S.Store c.args.conn c.in-Ok.desk.connection c.close.result c.close.ensures.same c.in-Ok.ensures.ok.clean

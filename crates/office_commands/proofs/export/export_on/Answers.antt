@@ -1,12 +1,9 @@
-use Rattle.std.proofs.Common.{◌≡◌, ◌∙◌, ap, inl, inr, refl}
+use Rattle.std.proofs.Common.{◌∙◌, ap, inl, inr, refl}
 use Rattle.sqlite.specs.Held.{state}
-use Rattle.office_rules.specs.State.{State}
 use Rattle.office_desk.specs.Desk.{DeskState}
 use Rattle.office_commands.specs.Exporting.{ExportEnds}
-use Rattle.office_commands.specs.Opening.{FromOpened}
 use Rattle.office_commands.proofs.Callings.{clean_closed, once_closed, shield_closed}
-use Rattle.office_commands.proofs.Desks.{of_office, opened}
-use Rattle.office_commands.proofs.Exports.{exports_of}
+use Rattle.office_commands.proofs.Desks.{opened}
 use Rattle.office_commands.proofs.Unopened.{unopened}
 use Rattle.office_commands.proofs.export.export_on.Goals as goal
 
@@ -16,11 +13,7 @@ returns-in-Ok-clause-ends g c =
     let desk = c.in-Ok.desk in
     once_closed _ _ (c.close.ensures.same ∙ ap (λ (d : DeskState _). d.connection) c.export_at-exit.ensures.kept)
     (λ h. ExportEnds c.args.register (state g.S.Store c.args.conn) (state g.S.Store h) (g.W.Write.contents c.args.out.now) (g.W.Write.contents c.export_at-exit.new.out) c.export_at-exit.result)
-    (inr (
-      opened g.S.Store c.args.conn desk it,
-      exports_of (λ (P : State → Type 0). (s : State) → s.office ≡ desk.office → P s) (FromOpened (state g.S.Store c.args.conn) (state g.S.Store desk.connection)) (of_office g.S.Store c.args.conn desk it)
-          c.args.register _ _ _ c.export_at-exit.ensures.exports,
-    ))
+    (inr (desk.office, opened g.S.Store c.args.conn desk it, c.export_at-exit.ensures.exports))
 
 pub returns-in-Ok-clause-clean : goal.returns-in-Ok-clause-clean
 returns-in-Ok-clause-clean g c = clean_closed g.S.Store c.args.conn c.in-Ok.desk.connection c.close.result (c.close.ensures.same ∙ ap (λ (d : DeskState _). d.connection) c.export_at-exit.ensures.kept) c.in-Ok.ensures.ok.clean

@@ -9,7 +9,7 @@ use Rattle.office_commands.proofs.init.init_on.Goals as goal
 pub returns-in-Ok-clause-ends : goal.returns-in-Ok-clause-ends
 returns-in-Ok-clause-ends g c =
     once_closed _ _ c.close.ensures.same (λ h. InitEnds (state g.S.Store c.args.conn) (state g.S.Store h) (g.W.Write.contents c.args.out.now) (g.W.Write.contents c.report_version.new.out) c.report_version.result)
-    (inr (opened g.S.Store c.args.conn c.in-Ok.desk c.in-Ok.ensures.ok, c.report_version.ensures))
+    (inr (c.in-Ok.desk.office, opened g.S.Store c.args.conn c.in-Ok.desk c.in-Ok.ensures.ok, c.report_version.ensures))
 
 pub returns-in-Ok-clause-clean : goal.returns-in-Ok-clause-clean
 returns-in-Ok-clause-clean g c = clean_closed g.S.Store c.args.conn c.in-Ok.desk.connection c.close.result c.close.ensures.same c.in-Ok.ensures.ok.clean

@@ -2,11 +2,10 @@ use Rattle.std.proofs.Common.{inl, inr, refl}
 use Rattle.std.specs.Prelude.{option_map}
 use Rattle.csv.specs.Reading.{strip_bom}
 use Rattle.sqlite.specs.Held.{state}
-use Rattle.office_desk.specs.Outcomes.{FromEach}
 use Rattle.office_commands.specs.Importing.{ImportEnds}
-use Rattle.office_commands.specs.Opening.{FromOpened}
+use Rattle.office_commands.specs.Opening.{WasAt, WasFound}
 use Rattle.office_commands.proofs.Callings.{clean_closed, once_closed, shield_closed}
-use Rattle.office_commands.proofs.Desks.{of_desk}
+use Rattle.office_commands.proofs.Desks.{represent_some, was_at}
 use Rattle.office_commands.proofs.Imports.{imports_of}
 use Rattle.office_commands.proofs.Unopened.{unopened}
 use Rattle.office_commands.proofs.record_import.import_on.Goals as goal
@@ -17,8 +16,11 @@ returns-in-Ok-clause-ends g c =
     let text = g.R.Read.remaining c.args.input.now in
     once_closed _ _ c.close.ensures.same
     (λ h. ImportEnds c.args.day text (state g.S.Store c.args.conn) (state g.S.Store h) (g.W.Write.contents c.args.out.now) (g.W.Write.contents c.import_at-exit.new.out) c.import_at-exit.result)
-    (inr (imports_of (FromEach g.S.Store c.in-Ok.desk desk) (FromOpened (state g.S.Store c.args.conn) (state g.S.Store desk.connection)) (of_desk g.S.Store c.args.conn c.in-Ok.desk c.in-Ok.ensures.ok desk c.import_at-exit.ensures.clean)
-    c.args.day (option_map strip_bom text) _ _ _ _ c.import_at-exit.ensures.done))
+    (inr (
+      represent_some g.S.Store c.args.conn c.in-Ok.desk c.in-Ok.ensures.ok (state g.S.Store desk.connection) c.import_at-exit.ensures.clean,
+      imports_of (WasAt g.S.Store c.in-Ok.desk desk) (WasFound (state g.S.Store c.args.conn) (state g.S.Store desk.connection)) (was_at g.S.Store c.args.conn c.in-Ok.desk c.in-Ok.ensures.ok desk c.import_at-exit.ensures.clean)
+          c.args.day (option_map strip_bom text) _ _ _ _ c.import_at-exit.ensures.done,
+    ))
 
 pub returns-in-Ok-clause-clean : goal.returns-in-Ok-clause-clean
 returns-in-Ok-clause-clean g c = clean_closed g.S.Store c.args.conn c.import_at-exit.new.desk.connection c.close.result c.close.ensures.same (λ clean. c.in-Ok.ensures.ok.clean (c.import_at-exit.ensures.clean clean))

@@ -14,9 +14,13 @@ returns-in-Ok-clause-done g c =
     let it = c.in-Ok.ensures in
     let was_open = open_run c.args.desk.now.office in
     let o = run_outcome (Ok c.in-Ok.answer) was_open in
-    (o, λ t clean at. run_left g.S.Store t o c.resume.new.self (it.leaves t clean at), c.report_answer.ensures was_open (it.answered (with_contents c.args.desk.now.office empty) c.requires refl).answered)
+    record {
+      outcome = o;
+      reported = c.report_answer.ensures was_open (it.answered (with_contents c.args.desk.now.office empty) c.requires refl).answered;
+      came = λ t was. run_left g.S.Store t o c.resume.new.self (it.leaves t was.0 was.1);
+    }
 
 pub returns-in-Err-clause-done : goal.returns-in-Err-clause-done
 returns-in-Err-clause-done g c =
     let o = run_stopped c.in-Err.fault in
-    (o, λ t clean at. run_left g.S.Store t o c.resume.new.self (c.in-Err.ensures.leaves t clean at), (refl, refl))
+    record { outcome = o; reported = (refl, refl); came = λ t was. run_left g.S.Store t o c.resume.new.self (c.in-Err.ensures.leaves t was.0 was.1) }
