@@ -11,6 +11,7 @@ use Rattle.office_sql.specs.declared.schema_versions.SchemaVersion.TheVariants a
 use Rattle.office_store.specs.declared.fault.Fault.{Fault}
 use Rattle.office_desk.specs.Desk.{DeskState}
 use Rattle.office_desk.specs.Leaving.{IsAt}
+use Rattle.office_life.specs.Opening.{StopsOffice}
 use Rattle.office_life.specs.Standing.{RestsAt}
 use Rattle.office_life.specs.Tables.{AreTablesAt, IsOfficeAt}
 use Rattle.office_command_line.specs.Orders.{Command}
@@ -21,6 +22,7 @@ use Rattle.office_commands.specs.Serving.{IsDeskOf, ServiceEnds}
 use Rattle.office_commands.specs.declared.exit.Exit.{Exit}
 use Rattle.office_commands.proofs.NextService.{service_so}
 use Rattle.office_commands.proofs.NextStates.{IsEnded, IsOneDatabase, StaySound, at_before, at_unopened, command_so, was_found}
+use Rattle.office_commands.proofs.Unopened.{stops_there, stops_unmade}
 
 -- an office at this state; or still the tables, of which there were none
 abbrev pub IsOfficeOrBefore : FileState → Trees → State → Type 0
@@ -38,6 +40,10 @@ module _ (one : IsOneDatabase) (stay : StaySound) (empty : IsSound empty_state) 
   rest_found : RestsAt old s → WasFound old new s
   rest_found (inl (ed, rest, sound, rows)) = was_found one stay ends old new s clean sound ed rest rows
   rest_found (inr (blank, none, is)) = (clean, inl (blank, is))
+
+  stops_rest : RestsAt old s → (f : Fault) → OfficeOpenFailed f old new → StopsOffice s f
+  stops_rest (inl (ed, rest, sound, rows)) = stops_there old new s clean ed rest sound rows
+  stops_rest (inr (blank, none, is)) = stops_unmade old new s clean blank none
 
   before_rest : RestsAt old s → (db : Trees) → old.may_leave db → IsOfficeOrBefore old db s
   before_rest (inl (ed, rest, sound, rows)) db may = inl (at_before one stay ends old new s clean sound ed rest rows db may)
@@ -60,7 +66,7 @@ module _ (one : IsOneDatabase) (stay : StaySound) (empty : IsSound empty_state) 
       let was = state g old in
       let is = state g new in
       command_so stay ends (IsOfficeOrBefore was) (λ db u at. inl at) g old new s (sound_at empty was s rests) (rest_found one stay empty ends was is s clean rests) (before_rest one stay empty ends was is s clean rests)
-      (unopened_rest one stay empty ends was is s clean rests) order text written after exit it
+      (unopened_rest one stay empty ends was is s clean rests) (stops_rest one stay empty ends was is s clean rests) order text written after exit it
 
   pub service_from : (port count : ℕ) (written after : Option (List ℕ)) (exit : Exit) → ServiceEnds g port count old new written after exit
       → (db : Trees) → (state g new).may_leave db → (u : State) × IsServedTo s u × IsOfficeOrBefore (state g old) db u

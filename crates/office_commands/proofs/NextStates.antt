@@ -24,7 +24,7 @@ use Rattle.office_sql.specs.Office.{IsAtRestOver, IsOfficeIn}
 use Rattle.office_store.specs.RepresentsRows.{ContainsRows, RepresentsRows, RepresentsRowsIn}
 use Rattle.office_store.specs.declared.fault.Fault.{Fault}
 use Rattle.office_store.specs.declared.fault.Fault.TheVariants as fault
-use Rattle.office_desk.specs.Leaving.{StopsLeaving}
+use Rattle.office_desk.specs.Leaving.{LeavesStep, StopsLeaving}
 use Rattle.office_desk.specs.Opening.{RepresentIn}
 use Rattle.office_desk.specs.Outcomes.{ActsCameTo, ActsOutcome, all_done, answers_of, stopped}
 use Rattle.office_desk.specs.Resumptions.{RunLeft, RunOutcome, none_open, run_closed, run_stopped}
@@ -43,16 +43,19 @@ use Rattle.office_commands.specs.Exporting.{ExportEnds, Exports}
 use Rattle.office_wire.specs.declared.record_import.ImportStop.{ImportStop}
 use Rattle.office_wire.specs.declared.record_import.ImportStop.TheVariants as import
 use Rattle.office_commands.specs.Importing.{AreImported, ImportsAt, IsRowCut, exit_of_import}
+use Rattle.office_life.specs.Life.{AreDoneAt}
+use Rattle.office_life.specs.Opening.{StopsOffice}
 use Rattle.office_life.specs.Tables.{IsOfficeAt}
 use Rattle.office_commands.specs.NextCommand.{AreActsDone, AreRowsAdded, IsAfterActs, IsEndOfRows, IsFaultAlone, IsLeftBy, IsNotApplied, IsNotImported, IsRunResumed, IsUntouched, IsVersionReported, LeavesAt, ReadsAt, SaysAll}
 use Rattle.office_commands.specs.Calling.{Reports}
 use Rattle.office_commands.specs.ExitStatuses.{exit_of_acts}
 use Rattle.office_commands.specs.Opening.{EndsOpenFailed, IsOpened, OfficeOpenFailed, RepresentSome, WasFound, WasOpened}
-use Rattle.office_commands.specs.Resuming.{IsRunReported, ResumeEnds}
+use Rattle.office_commands.specs.Resuming.{IsRunReported, ResumeEnds, certificate_line}
 use Rattle.office_commands.specs.Making.{InitEnds}
 use Rattle.office_commands.specs.Running.{RunEnds}
 use Rattle.office_commands.specs.declared.exit.Exit.{Exit}
 use Rattle.office_commands.specs.declared.exit.Exit.TheVariants as how
+use Rattle.office_commands.proofs.Unopened.{stops_there}
 
 -- ---- what the laws say
 
@@ -79,10 +82,28 @@ row_not_all : (number : ℕ) (exit : Exit) → exit ≡ how.CsvRow number → Sa
 row_not_all number exit is (inl done) = let other : how.CsvRow number ≡ how.Done = sym is ∙ done in cc
 row_not_all number exit is (inr some) = let other : how.CsvRow number ≡ how.SomeRefused = sym is ∙ some in cc
 
+-- a report that is written whole, or that the writer cut short, is no fault
+done_not_fault : (f : Fault) (lines : List ℕ) (written after : Option (List ℕ)) (exit : Exit) → Reports lines how.Done written after exit → exit ≡ how.Fault f → ⊥
+done_not_fault f lines written after exit (inl all) is = let other : how.Done ≡ how.Fault f = sym all.1 ∙ is in cc
+done_not_fault f lines written after exit (inr some) is = let other : how.File ≡ how.Fault f = sym some.1 ∙ is in cc
+
 -- acts that a fault stopped
 stopped_not_all : (replies : List Answer) (f : Fault) (lines : List ℕ) (written after : Option (List ℕ)) (exit : Exit) → Reports lines (exit_of_acts (stopped replies f)) written after exit → SaysAll exit → ⊥
 stopped_not_all replies f lines written after exit (inl all) = fault_not_all f exit all.1
 stopped_not_all replies f lines written after exit (inr some) = file_not_all exit some.1
+
+-- ---- a resumption that a fault stopped
+
+one_more : (n : ℕ) → suc n ≡ n + 1
+one_more n = omega arith
+
+-- if memory ran out, the run is open
+memory_leaves_open : (s : State) (f : Fault) (n k : ℕ) (exit : Exit) → LeavesStep s f n → AreDoneAt f n k → exit ≡ how.Fault f → exit ≡ how.Fault fault.Memory → open_run (after_steps s k).office ≡ open_run s.office
+memory_leaves_open s fault.Memory n k exit left done reported says = ap (λ (m : ℕ). open_run (after_steps s m).office) done ∙ left.still_open
+memory_leaves_open s fault.Store n k exit left done reported says = let other : how.Fault fault.Store ≡ how.Fault fault.Memory = sym reported ∙ says in absurd cc
+memory_leaves_open s fault.Reopen n k exit left done reported says = let other : how.Fault fault.Reopen ≡ how.Fault fault.Memory = sym reported ∙ says in absurd cc
+memory_leaves_open s fault.Damaged n k exit left done reported says = absurd done
+memory_leaves_open s fault.Version n k exit left done reported says = absurd done
 
 -- ---- states stay sound
 
@@ -160,7 +181,8 @@ module _ (one : IsOneDatabase) (stay : StaySound) (ends : IsEnded) (old new : Fi
 
 -- where an office that was opened so may be left, whatever the tables are that count as being at a state
 module _ (stay : StaySound) (ends : IsEnded) (At : Trees → State → Type 0) (office : (db : Trees) (u : State) → IsOfficeAt db u → At db u) (old new : FileState) (s : State) (sound : IsSound s)
-    (was : WasFound old new s) (at_unopened : (f : Fault) → OfficeOpenFailed f old new → (db : Trees) → new.may_leave db → At db s) where
+    (was : WasFound old new s) (at_unopened : (f : Fault) → OfficeOpenFailed f old new → (db : Trees) → new.may_leave db → At db s)
+    (stops : (f : Fault) → OfficeOpenFailed f old new → StopsOffice s f) where
   abbrev LeavesSo : (State → Type 0) → Type 0
   LeavesSo Is = (db : Trees) → new.may_leave db → (u : State) × Is u × At db u
 
@@ -176,7 +198,7 @@ module _ (stay : StaySound) (ends : IsEnded) (At : Trees → State → Type 0) (
   -- only a fault was reported
   fault_left : (Is : State → Type 0) (written after : Option (List ℕ)) (exit : Exit) → (IsFaultAlone written after exit s s → Is s) → EndsOpenFailed old new written after exit → LeavesSo Is
   fault_left Is written after exit is none db may =
-      (s, is (record { fault = none.0; reported = none.1; untouched = (refl, none.3) }), at_unopened none.0 none.2 db may)
+      (s, is (record { fault = none.0; reported = none.1; stops = stops none.0 none.2; untouched = (refl, none.3) }), at_unopened none.0 none.2 db may)
 
   -- the office was opened and left at its state, and something was reported of it
   reads_left : (Is : Type 0) (written after : Option (List ℕ)) (exit : Exit) → Is → (o : Office) → IsOpened old new o → LeavesSo (ReadsAt Is written after exit s)
@@ -204,7 +226,7 @@ module _ (stay : StaySound) (ends : IsEnded) (At : Trees → State → Type 0) (
 
   module _ (text : List ℕ) (written after : Option (List ℕ)) where
     abbrev ActsLeft : Exit → State → Type 0
-    ActsLeft exit u = IsUntouched written after s u × IsNotApplied text exit ⊎ AreActsDone text written after exit s u
+    ActsLeft exit u = IsUntouched written after s u × IsNotApplied s text exit ⊎ AreActsDone text written after exit s u
 
     module _ (acts : List Act) (read : acts_in text ≡ Ok acts) where
       came_left : (exit : Exit) (o : ActsOutcome) → ActsCameTo s acts o new → Reports (answer_lines (answers_of o)) (exit_of_acts o) written after exit → LeavesSo (ActsLeft exit)
@@ -226,12 +248,12 @@ module _ (stay : StaySound) (ends : IsEnded) (At : Trees → State → Type 0) (
       performs_left : (exit : Exit) → Performs (WasFound old new) acts new written after exit → LeavesSo (ActsLeft exit)
       performs_left exit it = came_left exit it.outcome (it.came s was) it.reported
 
-    not_read : (exit : Exit) → IsUnread text exit → IsNotApplied text exit
+    not_read : (exit : Exit) → IsUnread text exit → IsNotApplied s text exit
     not_read exit (inl why) = inr (inr why)
-    not_read exit (inr is) = inl (fault.Memory, is)
+    not_read exit (inr is) = inl (fault.Memory, is, tt)
 
     applies_left : (exit : Exit) → EndsOpenFailed old new written after exit ⊎ WasOpened old new × Applies (WasFound old new) text new written after exit → LeavesSo (ActsLeft exit)
-    applies_left exit (inl none) = fault_left (ActsLeft exit) written after exit (λ alone. inl (alone.untouched, inl (alone.fault, alone.reported))) none
+    applies_left exit (inl none) = fault_left (ActsLeft exit) written after exit (λ alone. inl (alone.untouched, inl (alone.fault, alone.reported, alone.stops))) none
     applies_left exit (inr (opened, inl none)) = untouched (ActsLeft exit) written after (λ same. inl (same, not_read exit none.why)) none.silent (has_rows s sound (none.rows s was))
     applies_left exit (inr (opened, inr it)) = performs_left it.0 it.1 exit it.2
 
@@ -239,7 +261,7 @@ module _ (stay : StaySound) (ends : IsEnded) (At : Trees → State → Type 0) (
 
   module _ (day : ℤ) (text written after : Option (List ℕ)) where
     abbrev RowsLeft : Exit → State → Type 0
-    RowsLeft exit u = IsUntouched written after s u × IsNotImported text exit ⊎ AreRowsAdded day text written after exit s u
+    RowsLeft exit u = IsUntouched written after s u × IsNotImported s text exit ⊎ AreRowsAdded day text written after exit s u
 
     -- rows were added, and no more
     added : (exit : Exit) (ended : Result ℕ ImportStop) → exit ≡ exit_of_import ended → (fs : List Fields) (reported : List Answer) (u : State) → IsEndOfRows fs reported ended → (SaysAll exit → AreAllRows text fs) → ArePrefixRows text fs → AreRowsDone day s fs reported u → Appends written after (lines_from 0 reported) ⊎ (exit ≡ how.File) × AreLinesOut reported written after → ContainsRows (rows_of u) new → LeavesSo (RowsLeft exit)
@@ -327,10 +349,21 @@ module _ (stay : StaySound) (ends : IsEnded) (At : Trees → State → Type 0) (
     imports_left exit (Err import.Io) is (fs, reported, u, prefix, done, holds, out) = added exit (Err import.Io) is fs reported u tt (λ says. absurd (file_not_all exit is says)) prefix done (inr (is, out)) holds
 
     import_left : (exit : Exit) → EndsOpenFailed old new written after exit ⊎ RepresentSome old new × ImportsAt (WasFound old new) day text new written after exit → LeavesSo (RowsLeft exit)
-    import_left exit (inl none) = fault_left (RowsLeft exit) written after exit (λ alone. inl (alone.untouched, inl (alone.fault, alone.reported))) none
+    import_left exit (inl none) = fault_left (RowsLeft exit) written after exit (λ alone. inl (alone.untouched, inl (alone.fault, alone.reported, alone.stops))) none
     import_left exit (inr (found, (done, is, it))) = imports_left exit done is (it s was)
 
   -- ---- resume
+
+  -- the steps that are done after a fault, by how many were taken before
+  stopped_steps : (n : ℕ) (f : Fault) → StopsLeaving (after_steps s n) (after_steps s (suc n)) f new → (db : Trees) → new.may_leave db → (k : ℕ) × AreDoneAt f n k × At db (after_steps s k)
+  stopped_steps n fault.Memory left db may = (n, refl, has_rows (after_steps s n) (sound_steps stay n s sound) left db may)
+  stopped_steps n fault.Store left db may = elim (has_stopped (after_steps s n) (after_steps s (suc n)) fault.Store (sound_steps stay n s sound) (sound_steps stay (suc n) s sound) left db may) [
+    | inl here ↦ (n, inl refl, here)
+    | inr next ↦ (suc n, inr (one_more n), next)
+  ]
+  stopped_steps n fault.Reopen left db may = (suc n, one_more n, has_rows (after_steps s (suc n)) (sound_steps stay (suc n) s sound) left db may)
+  stopped_steps n fault.Damaged left db may = absurd left
+  stopped_steps n fault.Version left db may = absurd left
 
   module _ (written after : Option (List ℕ)) (exit : Exit) where
     abbrev RunLeftSo : State → Type 0
@@ -341,7 +374,7 @@ module _ (stay : StaySound) (ends : IsEnded) (At : Trees → State → Type 0) (
         let n = suc (length (candidates s.office run)) in
         let is : whole s run ≡ after_steps s n = sym (ends s run is_open) in (
           whole s run,
-          inr (record { outcome = run_closed run; fits = is_open; reported = reported; count = n; steps = is; state = refl; closed = λ done. (run, is_open, refl) }),
+          inr (record { outcome = run_closed run; fits = is_open; reported = reported; count = n; steps = is; state = refl; still_open = λ says. absurd (done_not_fault fault.Memory (certificate_line run) written after exit reported says); closed = λ done. (run, is_open, refl) }),
           has_rows (whole s run) (subst IsSound (sym is) (sound_steps stay n s sound)) holds db may,
         )
 
@@ -350,17 +383,26 @@ module _ (stay : StaySound) (ends : IsEnded) (At : Trees → State → Type 0) (
     run_left none_open at reported db may =
         let not_done : exit ≡ how.Done → ⊥ = λ done. let other : how.Refused refused.NoRun ≡ how.Done = sym reported.0 ∙ done in cc in (
           s,
-          inr (record { outcome = none_open; fits = at.fits; reported = reported; count = 0; steps = refl; state = refl; closed = λ done. absurd (not_done done) }),
+          inr (record { outcome = none_open; fits = at.fits; reported = reported; count = 0; steps = refl; state = refl; still_open = λ says. refl; closed = λ done. absurd (not_done done) }),
           has_rows s sound at.leaves db may,
         )
     run_left (run_stopped f) at reported db may =
         let n = at.leaves.0 in
         let not_done : exit ≡ how.Done → ⊥ = λ done. let other : how.Fault f ≡ how.Done = sym reported.0 ∙ done in cc in
-        let taken : (k : ℕ) → IsRunResumed written after exit s (after_steps s k) = λ k. record { outcome = run_stopped f; fits = tt; reported = reported; count = k; steps = refl; state = tt; closed = λ done. absurd (not_done done) } in
-        elim (has_stopped (after_steps s n) (after_steps s (suc n)) f (sound_steps stay n s sound) (sound_steps stay (suc n) s sound) at.leaves.2 db may) [
-          | inl here ↦ (after_steps s n, inr (taken n), here)
-          | inr next ↦ (after_steps s (suc n), inr (taken (suc n)), next)
-        ]
+        let it = stopped_steps n f at.leaves.2 db may in (
+          after_steps s it.0,
+          inr (record {
+            outcome = run_stopped f;
+            fits = tt;
+            reported = reported;
+            count = it.0;
+            steps = refl;
+            state = (n, at.leaves.1, it.1);
+            still_open = λ says. memory_leaves_open s f n it.0 exit at.leaves.1 it.1 reported.0 says;
+            closed = λ done. absurd (not_done done);
+          }),
+          it.2,
+        )
 
     resume_left : ResumeEnds old new written after exit → LeavesSo RunLeftSo
     resume_left (inl none) = fault_left RunLeftSo written after exit (λ alone. inl alone) none
@@ -370,7 +412,8 @@ module _ (stay : StaySound) (ends : IsEnded) (At : Trees → State → Type 0) (
 
 module _ (stay : StaySound) (ends : IsEnded) (At : Trees → State → Type 0) (office : (db : Trees) (u : State) → IsOfficeAt db u → At db u) {S : Type 0} (g : Ghosts S) (old new : Held S) (s : State) (sound : IsSound s)
     (was : WasFound (state g old) (state g new) s) (before : (db : Trees) → (state g old).may_leave db → At db s)
-    (at_unopened : (f : Fault) → OfficeOpenFailed f (state g old) (state g new) → (db : Trees) → (state g new).may_leave db → At db s) where
+    (at_unopened : (f : Fault) → OfficeOpenFailed f (state g old) (state g new) → (db : Trees) → (state g new).may_leave db → At db s)
+    (stops : (f : Fault) → OfficeOpenFailed f (state g old) (state g new) → StopsOffice s f) where
   -- whatever a crash leaves of it is at a state of this kind
   abbrev LeftSo : (State → Type 0) → Held S → Type 0
   LeftSo Is h = (db : Trees) → (state g h).may_leave db → (u : State) × Is u × At db u
@@ -379,23 +422,23 @@ module _ (stay : StaySound) (ends : IsEnded) (At : Trees → State → Type 0) (
   same_held : (Is : State → Type 0) → Is s → new ≡ old → LeftSo Is new
   same_held Is is same = subst (LeftSo Is) (sym same) (λ db may. (s, is, before db may))
 
-  no_text : (text : List ℕ) (exit : Exit) → (exit ≡ how.File) ⊎ (exit ≡ how.Fault fault.Memory) → IsNotApplied text exit
+  no_text : (text : List ℕ) (exit : Exit) → (exit ≡ how.File) ⊎ (exit ≡ how.Fault fault.Memory) → IsNotApplied s text exit
   no_text text exit (inl is) = inr (inl is)
-  no_text text exit (inr is) = inl (fault.Memory, is)
+  no_text text exit (inr is) = inl (fault.Memory, is, tt)
 
   pub command_so : (order : Command) (text : List ℕ) (written after : Option (List ℕ)) (exit : Exit) → RunEnds g order (Some text) old new written after exit → LeftSo (IsLeftBy order text written after exit s) new
   command_so command.nothing text written after exit it = same_held (IsUntouched written after s) (refl, it.2) it.1
   command_so (command.due unit count offset day) text written after exit it = same_held (IsUntouched written after s) (refl, it.2) it.1
   command_so (command.plan file) text written after exit it = same_held (IsUntouched written after s) (refl, it.2) it.1
   command_so (command.serve file port count) text written after exit it = same_held (IsUntouched written after s) (refl, it.2) it.1
-  command_so (command.init file) text written after exit it = init_left stay ends At office (state g old) (state g new) s sound was at_unopened written after exit it
+  command_so (command.init file) text written after exit it = init_left stay ends At office (state g old) (state g new) s sound was at_unopened stops written after exit it
   command_so (command.apply file acts) text written after exit (inl none) = same_held (IsLeftBy (command.apply file acts) text written after exit s) (inl ((refl, none.2), no_text text exit none.0)) none.1
-  command_so (command.apply file acts) text written after exit (inr it) = applies_left stay ends At office (state g old) (state g new) s sound was at_unopened text written after exit it
-  command_so (command.import file day csv) text written after exit it = import_left stay ends At office (state g old) (state g new) s sound was at_unopened day (option_map strip_bom (Some text)) written after exit it
-  command_so (command.overdue file day n) text written after exit it = export_left stay ends At office (state g old) (state g new) s sound was at_unopened (register.Overdue day n) written after exit it
-  command_so (command.export file register) text written after exit it = export_left stay ends At office (state g old) (state g new) s sound was at_unopened register written after exit it
-  command_so (command.resume file) text written after exit it = resume_left stay ends At office (state g old) (state g new) s sound was at_unopened written after exit it
-  command_so (command.certificate file run) text written after exit it = certificate_left stay ends At office (state g old) (state g new) s sound was at_unopened run written after exit it
+  command_so (command.apply file acts) text written after exit (inr it) = applies_left stay ends At office (state g old) (state g new) s sound was at_unopened stops text written after exit it
+  command_so (command.import file day csv) text written after exit it = import_left stay ends At office (state g old) (state g new) s sound was at_unopened stops day (option_map strip_bom (Some text)) written after exit it
+  command_so (command.overdue file day n) text written after exit it = export_left stay ends At office (state g old) (state g new) s sound was at_unopened stops (register.Overdue day n) written after exit it
+  command_so (command.export file register) text written after exit it = export_left stay ends At office (state g old) (state g new) s sound was at_unopened stops register written after exit it
+  command_so (command.resume file) text written after exit it = resume_left stay ends At office (state g old) (state g new) s sound was at_unopened stops written after exit it
+  command_so (command.certificate file run) text written after exit it = certificate_left stay ends At office (state g old) (state g new) s sound was at_unopened stops run written after exit it
 
 -- over an office at rest
 pub command_left : IsOneDatabase → StaySound → IsEnded → {S : Type 0} (g : Ghosts S) (old new : Held S) (s : State) → HasCleanDisk (state g new) → IsSound s → (ed : SchemaVersion) → IsAtRestOver ed (state g old) → RepresentsRowsIn ed (rows_of s) (state g old).now.trees
@@ -404,4 +447,4 @@ command_left one stay ends g old new s clean sound ed rest rows order text writt
     let was = state g old in
     let is = state g new in
     command_so stay ends IsOfficeAt (λ db u at. at) g old new s sound (was_found one stay ends was is s clean sound ed rest rows) (at_before one stay ends was is s clean sound ed rest rows)
-    (λ f unopened. at_unopened one stay ends was is s clean sound ed f rest rows unopened) order text written after exit it
+    (λ f unopened. at_unopened one stay ends was is s clean sound ed f rest rows unopened) (stops_there was is s clean ed rest sound rows) order text written after exit it

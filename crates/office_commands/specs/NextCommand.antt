@@ -23,8 +23,12 @@ use Rattle.office_rules.specs.State.{State}
 use Rattle.office_rules.specs.declared.act.Act.{Act}
 use Rattle.office_rules.specs.declared.answer.Answer.{Answer}
 use Rattle.office_store.specs.declared.fault.Fault.{Fault}
+use Rattle.office_store.specs.declared.fault.Fault.TheVariants as fault
+use Rattle.office_desk.specs.Leaving.{LeavesStep}
 use Rattle.office_desk.specs.Outcomes.{ActsOutcome, CanComeTo, all_done, answered_acts, answers_of, stopped}
 use Rattle.office_desk.specs.Resumptions.{IsRunOf, RunOutcome, none_open, run_closed, run_stopped}
+use Rattle.office_life.specs.Life.{AreDoneAt}
+use Rattle.office_life.specs.Opening.{StopsOffice}
 use Rattle.office_life.specs.Tables.{ContainTables, IsOfficeAt}
 use Rattle.office_command_line.specs.Orders as command
 use Rattle.office_command_line.specs.Orders.{Command}
@@ -75,16 +79,18 @@ SaysAll exit = (exit ≡ how.Done) ⊎ (exit ≡ how.SomeRefused)
 abbrev pub IsUntouched : Option (List ℕ) → Option (List ℕ) → State → State → Type 0
 IsUntouched written after s u = (u ≡ s) × (after ≡ written)
 
--- a fault is reported, as when the office was not opened: nothing was done, and nothing was written
+-- a fault is reported, by which the opening of the office may stop: nothing was done, and nothing was written
 pub record IsFaultAlone (written after : Option (List ℕ)) (exit : Exit) (s u : State) : Type 0 where
   pub fault : Fault
   pub reported : exit ≡ how.Fault fault
+  pub stops : StopsOffice s fault
   pub untouched : IsUntouched written after s u
 
--- why no act of a text was done: a fault; the text could not be read to its end; or it is no list of acts
-abbrev pub IsNotApplied : List ℕ → Exit → Type 0
-IsNotApplied text exit =
-    ((f : Fault) × (exit ≡ how.Fault f)) ⊎ ((exit ≡ how.File)
+-- why no act of a text was done: a fault by which the opening of the office may stop; the text could not be read to its
+-- end; or it is no list of acts
+abbrev pub IsNotApplied : State → List ℕ → Exit → Type 0
+IsNotApplied s text exit =
+    ((f : Fault) × (exit ≡ how.Fault f) × StopsOffice s f) ⊎ ((exit ≡ how.File)
     ⊎ ((why : NoActs) × (acts_in text ≡ Err why) × (exit ≡ exit_of_none why)))
 
 -- the state after acts that came to an outcome: after all; or after those that were answered, or one more
@@ -135,15 +141,18 @@ pub record AreRowsAdded (day : ℤ) (text : Option (List ℕ)) (written after : 
   -- all of them, if the exit says so
   pub all : SaysAll exit → AreAllRows text rows × (u ≡ reached)
 
--- why no row of a text was added: a fault; or the text lacks the row that names the columns
-abbrev pub IsNotImported : Option (List ℕ) → Exit → Type 0
-IsNotImported text exit = ((f : Fault) × (exit ≡ how.Fault f)) ⊎ (exit ≡ how.CsvHeader) × LacksHeader StartRecord text
+-- why no row of a text was added: a fault by which the opening of the office may stop; or the text lacks the row that
+-- names the columns
+abbrev pub IsNotImported : State → Option (List ℕ) → Exit → Type 0
+IsNotImported s text exit =
+    ((f : Fault) × (exit ≡ how.Fault f) × StopsOffice s f) ⊎ (exit ≡ how.CsvHeader) × LacksHeader StartRecord text
 
--- the state that a resumption leaves: the whole of the run that it closed; the same, if none was open
-abbrev pub IsAfterRun : State → RunOutcome → State → Type 0
-IsAfterRun s (run_closed run) u = u ≡ whole s run
-IsAfterRun s none_open u = u ≡ s
-IsAfterRun s (run_stopped f) u = Unit {0}
+-- the state that a resumption of so many steps leaves: the whole of the run that it closed; the same, if none was open;
+-- if a fault stopped the resumption, one step is left behind those that were taken, and that one may be done too
+abbrev pub IsAfterRun : State → RunOutcome → ℕ → State → Type 0
+IsAfterRun s (run_closed run) steps u = u ≡ whole s run
+IsAfterRun s none_open steps u = u ≡ s
+IsAfterRun s (run_stopped f) steps u = (taken : ℕ) × LeavesStep s f taken × AreDoneAt f taken steps
 
 -- steps of the open run were taken, and what that came to is reported
 pub record IsRunResumed (written after : Option (List ℕ)) (exit : Exit) (s u : State) : Type 0 where
@@ -152,7 +161,9 @@ pub record IsRunResumed (written after : Option (List ℕ)) (exit : Exit) (s u :
   pub reported : IsRunReported outcome written after exit
   pub count : ℕ
   pub steps : u ≡ after_steps s count
-  pub state : IsAfterRun s outcome u
+  pub state : IsAfterRun s outcome count u
+  -- the run is still open if memory ran out
+  pub still_open : exit ≡ how.Fault fault.Memory → open_run u.office ≡ open_run s.office
   -- to the end of the run, if the exit says so
   pub closed : exit ≡ how.Done → (run : ℕ) × (open_run s.office ≡ Some run) × (u ≡ whole s run)
 
@@ -167,9 +178,9 @@ ReadsAt Is written after exit s u = IsFaultAlone written after exit s u ⊎ Is �
 -- at which state an order leaves an office that was at one, by what it read and wrote and how it ended
 abbrev pub IsLeftBy : Command → List ℕ → Option (List ℕ) → Option (List ℕ) → Exit → State → State → Type 0
 IsLeftBy (command.apply file acts) text written after exit s u =
-    IsUntouched written after s u × IsNotApplied text exit ⊎ AreActsDone text written after exit s u
+    IsUntouched written after s u × IsNotApplied s text exit ⊎ AreActsDone text written after exit s u
 IsLeftBy (command.import file day csv) text written after exit s u =
-    IsUntouched written after s u × IsNotImported (option_map strip_bom (Some text)) exit
+    IsUntouched written after s u × IsNotImported s (option_map strip_bom (Some text)) exit
     ⊎ AreRowsAdded day (option_map strip_bom (Some text)) written after exit s u
 IsLeftBy (command.resume file) text written after exit s u =
     IsFaultAlone written after exit s u ⊎ IsRunResumed written after exit s u

@@ -32,10 +32,15 @@ pub fn law_of_a_killed_command<D: Disk + Drop>(conn: Connection<FileStore<D>>) -
 /// and over which a command was run ([`crate::run_opened`] promises `RunsInFiles`), hold an office
 /// again, at the state at which the command leaves it (`IsLeftBy`): of `apply`, after the acts whose
 /// answers were written and at most one more; of `import`, after the rows whose lines were written
-/// and at most one more; where either ended by `File`, as when standard output could not be
-/// written, the answers or lines of what was done are those of which the first bytes went out; of
-/// `resume`, after some steps of the run, and where it says `certificate` after all; of each other
-/// command, at the same state. A service
+/// and at most one more; if either ended by `File`, as when standard output could not be written,
+/// the answers or lines of what was done are those whose first bytes went out; of `resume`, after
+/// some steps of the run; of each other command, at the same state.
+///
+/// `IsLeftBy` names the exit and the printed text too. By exit 0, `apply` did all acts of the text,
+/// `import` added all rows, and `resume` closed the run whose `certificate` line it printed. If
+/// `resume` ended by fault 30, the run is still open. If the office was not opened, nothing was done
+/// and nothing printed, by fault 30 or 31; by 33 only if a certificate in the office is no text, and
+/// by 34 never (`StopsOffice`). A service
 /// ([`crate::serve_opened`] promises `ServesInFiles`) leaves it after some acts (`IsServedTo`).
 /// It is so where the command ended and the files were closed, as they read now and after any crash,
 /// and where they could not be closed, after any crash; of a store that the failed closing shut it
