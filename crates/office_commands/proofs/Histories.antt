@@ -147,7 +147,7 @@ fault_alone s was = record { fault = fault.Store; reported = was.0; stops = tt; 
 
 order_stays : (order : Command) (text : List ℕ) (written after : Option (List ℕ)) (exit : Exit) (s : State) → (exit ≡ how.Fault fault.Store) × (after ≡ written) → IsLeftBy order text written after exit s s
 order_stays (command.apply file acts) text written after exit s was = inl ((refl, was.1), inl (fault.Store, was.0, tt))
-order_stays (command.import file day csv) text written after exit s was = inl ((refl, was.1), inl (fault.Store, was.0, tt))
+order_stays (command.import file day csv) text written after exit s was = inl (fault_alone s was)
 order_stays (command.resume file) text written after exit s was = inl (fault_alone s was)
 order_stays (command.init file) text written after exit s was = inl (fault_alone s was)
 order_stays (command.export file register) text written after exit s was = inl (fault_alone s was)

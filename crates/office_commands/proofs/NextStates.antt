@@ -1,7 +1,6 @@
 -- At which state a command leaves an office, whatever a crash leaves of it.
-use Rattle.std.proofs.Common.{◌≡◌, ◌⊎◌, inl, inr, ℕ, ℤ, zero, suc, ◌+◌, List, [], ◌∷◌, ◌++◌, length, take, Option, Some, None, Result, Ok, Err, refl, sym, ap, subst, ◌∙◌, append-nil, arith}
+use Rattle.std.proofs.Common.{◌≡◌, ◌⊎◌, inl, inr, ℕ, ℤ, zero, suc, ◌+◌, List, [], ◌∷◌, length, take, Option, Some, Result, Ok, Err, refl, sym, ap, subst, ◌∙◌, arith}
 use Rattle.std.specs.Prelude.{option_map}
-use Rattle.std.specs.Io.KnownBytes.{Appends}
 use Rattle.csv.specs.Reading.{strip_bom}
 use Rattle.sqlite_trees.specs.Tree.{Trees}
 use Rattle.sqlite.specs.Held.{Held, state}
@@ -32,7 +31,7 @@ use Rattle.office_desk.proofs.RunSteps.{step_run}
 use Rattle.office_json.specs.Answers.{answer_lines}
 use Rattle.office_json.specs.Lists.{acts_in}
 use Rattle.office_csv.specs.ImportRows.{Fields, parsed_row}
-use Rattle.office_wire.specs.Importing.{AreAllRows, AreLinesOut, ArePrefixRows, AreRowsDone, AreSomeRows, IsAnsweredBy, lines_from}
+use Rattle.office_wire.specs.Importing.{AreAllRows, AreRowsDone, FitsText, ImportCameTo, ImportEnd, ImportOutcome, IsAnsweredBy, all_rows, bad_row, io_failed, import_result, no_header, out_of_memory, result_by, row_stopped}
 use Rattle.office_command_line.specs.Orders as command
 use Rattle.office_command_line.specs.Orders.{Command}
 use Rattle.office_command_line.specs.declared.register.Register.{Register}
@@ -41,12 +40,11 @@ use Rattle.office_commands.specs.Applying.{Applies, IsUnread, Performs}
 use Rattle.office_commands.specs.Certifying.{CertificateEnds, Certifies}
 use Rattle.office_commands.specs.Exporting.{ExportEnds, Exports}
 use Rattle.office_wire.specs.declared.record_import.ImportStop.{ImportStop}
-use Rattle.office_wire.specs.declared.record_import.ImportStop.TheVariants as import
-use Rattle.office_commands.specs.Importing.{AreImported, ImportsAt, IsRowCut, exit_of_import}
+use Rattle.office_commands.specs.Importing.{AreImported, ImportLeaves, ImportsAt, IsRowCut, exit_of_import}
 use Rattle.office_life.specs.Life.{AreDoneAt}
 use Rattle.office_life.specs.Opening.{StopsOffice}
 use Rattle.office_life.specs.Tables.{IsOfficeAt}
-use Rattle.office_commands.specs.NextCommand.{AreActsDone, AreRowsAdded, IsAfterActs, IsEndOfRows, IsFaultAlone, IsLeftBy, IsNotApplied, IsNotImported, IsRunResumed, IsUntouched, IsVersionReported, LeavesAt, ReadsAt, SaysAll}
+use Rattle.office_commands.specs.NextCommand.{AreActsDone, AreRowsAdded, IsAfterActs, IsFaultAlone, IsLeftBy, IsNotApplied, IsRunResumed, IsUntouched, IsVersionReported, LeavesAt, ReadsAt, SaysAll}
 use Rattle.office_commands.specs.Calling.{Reports}
 use Rattle.office_commands.specs.ExitStatuses.{exit_of_acts}
 use Rattle.office_commands.specs.Opening.{EndsOpenFailed, IsOpened, OfficeOpenFailed, RepresentSome, WasFound, WasOpened}
@@ -77,6 +75,10 @@ fault_not_all f exit is (inr some) = let other : how.Fault f ≡ how.SomeRefused
 file_not_all : (exit : Exit) → exit ≡ how.File → SaysAll exit → ⊥
 file_not_all exit is (inl done) = let other : how.File ≡ how.Done = sym is ∙ done in cc
 file_not_all exit is (inr some) = let other : how.File ≡ how.SomeRefused = sym is ∙ some in cc
+
+header_not_all : (exit : Exit) → exit ≡ how.CsvHeader → SaysAll exit → ⊥
+header_not_all exit is (inl done) = let other : how.CsvHeader ≡ how.Done = sym is ∙ done in cc
+header_not_all exit is (inr some) = let other : how.CsvHeader ≡ how.SomeRefused = sym is ∙ some in cc
 
 row_not_all : (number : ℕ) (exit : Exit) → exit ≡ how.CsvRow number → SaysAll exit → ⊥
 row_not_all number exit is (inl done) = let other : how.CsvRow number ≡ how.Done = sym is ∙ done in cc
@@ -261,95 +263,62 @@ module _ (stay : StaySound) (ends : IsEnded) (At : Trees → State → Type 0) (
 
   module _ (day : ℤ) (text written after : Option (List ℕ)) where
     abbrev RowsLeft : Exit → State → Type 0
-    RowsLeft exit u = IsUntouched written after s u × IsNotImported s text exit ⊎ AreRowsAdded day text written after exit s u
+    RowsLeft exit u = IsFaultAlone written after exit s u ⊎ AreRowsAdded day text written after exit s u
+
+    -- all rows of the text, if the exit says so
+    all_by : (rows : List Fields) (reported : List Answer) (why : ImportEnd) (exit : Exit) → exit ≡ exit_of_import (result_by rows reported why) → SaysAll exit → FitsText text rows why → AreAllRows text rows
+    all_by rows reported all_rows exit is says fits = fits
+    all_by rows reported no_header exit is says fits = absurd (header_not_all exit is says)
+    all_by rows reported bad_row exit is says fits = absurd (row_not_all (length rows + 1) exit is says)
+    all_by rows reported out_of_memory exit is says fits = absurd (fault_not_all fault.Memory exit is says)
+    all_by rows reported (row_stopped row f) exit is says fits = absurd (fault_not_all f exit is says)
+    all_by rows reported io_failed exit is says fits = absurd (file_not_all exit is says)
 
     -- rows were added, and no more
-    added : (exit : Exit) (ended : Result ℕ ImportStop) → exit ≡ exit_of_import ended → (fs : List Fields) (reported : List Answer) (u : State) → IsEndOfRows fs reported ended → (SaysAll exit → AreAllRows text fs) → ArePrefixRows text fs → AreRowsDone day s fs reported u → Appends written after (lines_from 0 reported) ⊎ (exit ≡ how.File) × AreLinesOut reported written after → ContainsRows (rows_of u) new → LeavesSo (RowsLeft exit)
-    added exit ended is fs reported u why whole prefix done lines holds db may = (
+    added : (exit : Exit) (o : ImportOutcome) (u : State) → exit ≡ exit_of_import (import_result o) → ImportCameTo day s text o u written after → ContainsRows (rows_of u) new → LeavesSo (RowsLeft exit)
+    added exit o u is came holds db may = (
       u,
       inr (record {
-        rows = fs;
-        answers = reported;
+        outcome = o;
         reached = u;
-        begins = ([], subst (ArePrefixRows text) (sym (append-nil fs)) prefix);
-        done = done;
-        answered = lines;
-        state = inl refl;
-        ended = ended;
+        came = came;
         reported = is;
-        why = why;
-        all = λ says. (whole says, refl);
+        state = inl refl;
+        all = λ says. (all_by o.rows o.answers o.why exit is says came.fits, refl);
       }),
-      has_rows u (sound_rows stay day s u fs reported done sound) holds db may,
+      has_rows u (sound_rows stay day s u o.rows o.answers came.done sound) holds db may,
     )
 
-    cut_row : (exit : Exit) (fs : List Fields) (reported : List Answer) (u : State) (row : Fields) (f : Fault) → exit ≡ how.Fault f → (SaysAll exit → ⊥) → AreSomeRows text (fs ++ row ∷ []) → AreRowsDone day s fs reported u → Appends written after (lines_from 0 reported) → IsRowCut day u row f new → LeavesSo (RowsLeft exit)
-    cut_row exit fs reported u row f says not_all some done lines (inl it) db may = (
-      u,
-      inr (record {
-        rows = fs;
-        answers = reported;
-        reached = u;
-        begins = (row ∷ [], inr some);
-        done = done;
-        answered = inl lines;
-        state = inl refl;
-        ended = Err (import.Fault f);
-        reported = says;
-        why = tt;
-        all = λ all. absurd (not_all all);
-      }),
-      has_rows u (sound_rows stay day s u fs reported done sound) it.1 db may,
-    )
-    cut_row exit fs reported u row f says not_all some done lines (inr (a, is, formed, left)) db may =
-        let sound_u = sound_rows stay day s u fs reported done sound in
+    cut_row : (exit : Exit) (rows : List Fields) (replies : List Answer) (u : State) (row : Fields) (f : Fault) → exit ≡ how.Fault f → ImportCameTo day s text (record { rows = rows; answers = replies; why = row_stopped row f }) u written after → IsRowCut day u row f new → LeavesSo (RowsLeft exit)
+    cut_row exit rows replies u row f is came (inl it) db may = added exit (record { rows = rows; answers = replies; why = row_stopped row f }) u is came it.1 db may
+    cut_row exit rows replies u row f is came (inr (a, asks, formed, left)) db may =
+        let sound_u = sound_rows stay day s u rows replies came.done sound in
+        let o : ImportOutcome = record { rows = rows; answers = replies; why = row_stopped row f } in
         elim (has_stopped u (step u a).1 f sound_u (stay u a sound_u formed) left db may) [
-          | inl here ↦ (
-            u,
-            inr (record {
-              rows = fs;
-              answers = reported;
-              reached = u;
-              begins = (row ∷ [], inr some);
-              done = done;
-              answered = inl lines;
-              state = inl refl;
-              ended = Err (import.Fault f);
-              reported = says;
-              why = tt;
-              all = λ all. absurd (not_all all);
-            }),
-            here,
-          )
+          | inl here ↦ (u, inr (record { outcome = o; reached = u; came = came; reported = is; state = inl refl; all = λ says. absurd (fault_not_all f exit is says) }), here)
           | inr next ↦ (
             (step u a).1,
             inr (record {
-              rows = fs;
-              answers = reported;
+              outcome = o;
               reached = u;
-              begins = (row ∷ [], inr some);
-              done = done;
-              answered = inl lines;
-              state = inr (row, (step u a).0, some, (rw is (formed, refl, refl)));
-              ended = Err (import.Fault f);
-              reported = says;
-              why = tt;
-              all = λ all. absurd (not_all all);
+              came = came;
+              reported = is;
+              state = inr ((step u a).0, (rw asks (formed, refl, refl)));
+              all = λ says. absurd (fault_not_all f exit is says);
             }),
             next,
           )
         ]
 
+    left_by : (exit : Exit) (rows : List Fields) (replies : List Answer) (why : ImportEnd) (u : State) → exit ≡ exit_of_import (result_by rows replies why) → ImportCameTo day s text (record { rows = rows; answers = replies; why = why }) u written after → ImportLeaves day u why new → LeavesSo (RowsLeft exit)
+    left_by exit rows replies (row_stopped row f) u is came leaves = cut_row exit rows replies u row f is came leaves
+    left_by exit rows replies why u is came leaves = added exit (record { rows = rows; answers = replies; why = why }) u is came leaves
+
     imports_left : (exit : Exit) (done : Result ℕ ImportStop) → exit ≡ exit_of_import done → AreImported day text done new written after s → LeavesSo (RowsLeft exit)
-    imports_left exit (Ok refused) is (fs, reported, u, (r, left, first, ended), it, none) = added exit (Ok refused) is fs reported u none (λ says. (r, left, first, ended)) (inr (r, left, first)) it.done (inl it.reported) it.saved
-    imports_left exit (Err import.Header) is it = untouched (RowsLeft exit) written after (λ same. inl (same, inr (is, it.0))) it.2 (has_rows s sound it.1)
-    imports_left exit (Err (import.Row number)) is (fs, reported, u, (r, left, first, bad), it, at) = added exit (Err (import.Row number)) is fs reported u at (λ says. absurd (row_not_all number exit is says)) (inr (r, left, first)) it.done (inl it.reported) it.saved
-    imports_left exit (Err (import.Fault f)) is (fs, reported, u, done, lines, inl it) = added exit (Err (import.Fault f)) is fs reported u tt (λ says. absurd (fault_not_all f exit is says)) it.1 done (inl lines) it.2
-    imports_left exit (Err (import.Fault f)) is (fs, reported, u, done, lines, inr it) = cut_row exit fs reported u it.0 f is (fault_not_all f exit is) it.1 done lines it.2
-    imports_left exit (Err import.Io) is (fs, reported, u, prefix, done, holds, out) = added exit (Err import.Io) is fs reported u tt (λ says. absurd (file_not_all exit is says)) prefix done (inr (is, out)) holds
+    imports_left exit done is (o, u, gives, came, leaves) = left_by exit o.rows o.answers o.why u (is ∙ ap exit_of_import gives) came leaves
 
     import_left : (exit : Exit) → EndsOpenFailed old new written after exit ⊎ RepresentSome old new × ImportsAt (WasFound old new) day text new written after exit → LeavesSo (RowsLeft exit)
-    import_left exit (inl none) = fault_left (RowsLeft exit) written after exit (λ alone. inl (alone.untouched, inl (alone.fault, alone.reported, alone.stops))) none
+    import_left exit (inl none) = fault_left (RowsLeft exit) written after exit (λ alone. inl alone) none
     import_left exit (inr (found, (done, is, it))) = imports_left exit done is (it s was)
 
   -- ---- resume

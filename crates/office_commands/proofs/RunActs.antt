@@ -19,12 +19,12 @@ use Rattle.office_commands.proofs.NextStates.{well_formed_prefix}
 use Rattle.office_desk.proofs.StepFates.{after_run, are_steps, run_steps}
 use Rattle.office_csv.specs.ImportRows.{Fields, parsed_row}
 use Rattle.office_json.specs.Lists.{acts_in}
-use Rattle.office_wire.specs.Importing.{ArePrefixRows, AreRowsDone, IsAnsweredBy}
+use Rattle.office_wire.specs.Importing.{ArePrefixRows, AreRowsDone, FitsText, ImportEnd, IsAnsweredBy, all_rows, bad_row, io_failed, no_header, out_of_memory, row_stopped}
 use Rattle.office_command_line.specs.Orders as command
 use Rattle.office_command_line.specs.Orders.{Command}
 use Rattle.office_commands.specs.CommandActs.{AreActsOf, AreFirstActs, AreFirstRows, act_of, acts_of_rows}
 use Rattle.office_commands.specs.FileHistory.{ActsOfRuns, AreActsOfRun, IsLeftAt, ProgramRun, ReportsContents, StateHistory, led, no_run, one_run, ran_command, ran_service, stayed}
-use Rattle.office_commands.specs.NextCommand.{AreRowsAdded, IsAfterActs, IsLeftBy, ReadsAt}
+use Rattle.office_commands.specs.NextCommand.{AreRowsAdded, IsAfterActs, IsLeftBy, IsOneMore, ReadsAt}
 use Rattle.office_commands.specs.declared.exit.Exit.{Exit}
 
 -- acts of this kind lead there
@@ -67,21 +67,34 @@ acts_to text s u acts (stopped replies f) read formed (inl is) =
 acts_to text s u acts (stopped replies f) read formed (inr is) =
     (take (length replies + 1) acts, record { listed = acts; read = read; count = length replies + 1; first = refl }, well_formed_prefix (length replies + 1) acts formed, is)
 
-module _ (day : ℤ) (text : Option (List ℕ)) (written after : Option (List ℕ)) (exit : Exit) (s u : State) (it : AreRowsAdded day text written after exit s u) where
-  reached : LeadsBy (λ done. done ≡ acts_of_rows day it.rows) s it.reached
-  reached = rows_to day s it.reached it.rows it.answers it.done
+-- the rows of an outcome are the first of the text
+begins_by : (text : Option (List ℕ)) (rows : List Fields) (why : ImportEnd) → FitsText text rows why → (more : List Fields) × ArePrefixRows text (rows ++ more)
+begins_by text rows all_rows fits = ([], subst (ArePrefixRows text) (sym (append-nil rows)) (inr (fits.0, fits.1, fits.2)))
+begins_by text rows no_header fits = ([], inl (append-nil rows ∙ fits.1))
+begins_by text rows bad_row fits = ([], subst (ArePrefixRows text) (sym (append-nil rows)) (inr (fits.0, fits.1, fits.2)))
+begins_by text rows out_of_memory fits = ([], subst (ArePrefixRows text) (sym (append-nil rows)) fits)
+begins_by text rows (row_stopped row f) fits = (row ∷ [], inr fits)
+begins_by text rows io_failed fits = ([], subst (ArePrefixRows text) (sym (append-nil rows)) fits)
 
-  imported_to : LeadsBy (AreFirstRows day text) s u
-  imported_to = elim it.state [
-    | inl is ↦
-        let all = as_kind (λ done. done ≡ acts_of_rows day it.rows) (AreFirstRows day text) (λ done same. record { rows = it.rows; begins = it.begins; asked = same }) s it.reached reached in
-        subst (LeadsBy (AreFirstRows day text) s) (sym is) all
-    | inr more ↦
-        let rows = it.rows ++ more.0 ∷ [] in
-        let begins : (others : List Fields) × ArePrefixRows text (rows ++ others) = ([], subst (ArePrefixRows text) (sym (append-nil rows)) (inr more.2)) in
-        further (λ done. done ≡ acts_of_rows day it.rows) (λ done. done ≡ act_of (parsed_row day more.0)) (AreFirstRows day text)
-        (λ xs ys x y. record { rows = rows; begins = begins; asked = (λ i. x i ++ y i) ∙ one_row day it.rows more.0 }) s it.reached u reached (row_to it.reached u more.1 (parsed_row day more.0) more.3)
-  ]
+module _ (day : ℤ) (text : Option (List ℕ)) (s t u : State) (rows : List Fields) (reached : LeadsBy (λ done. done ≡ acts_of_rows day rows) s t) where
+  rows_alone : (why : ImportEnd) → FitsText text rows why → u ≡ t → LeadsBy (AreFirstRows day text) s u
+  rows_alone why fits is =
+      let all = as_kind (λ done. done ≡ acts_of_rows day rows) (AreFirstRows day text) (λ done same. record { rows = rows; begins = begins_by text rows why fits; asked = same }) s t reached in
+      subst (LeadsBy (AreFirstRows day text) s) (sym is) all
+
+  row_more : (why : ImportEnd) → FitsText text rows why → IsOneMore day t why u → LeadsBy (AreFirstRows day text) s u
+  row_more (row_stopped row f) fits (answer, one) =
+      let all = rows ++ row ∷ [] in
+      let begins : (others : List Fields) × ArePrefixRows text (all ++ others) = ([], subst (ArePrefixRows text) (sym (append-nil all)) (inr fits)) in
+      further (λ done. done ≡ acts_of_rows day rows) (λ done. done ≡ act_of (parsed_row day row)) (AreFirstRows day text)
+      (λ xs ys x y. record { rows = all; begins = begins; asked = (λ i. x i ++ y i) ∙ one_row day rows row }) s t u reached (row_to t u answer (parsed_row day row) one)
+  row_more why fits none = absurd none
+
+imported_to : (day : ℤ) (text : Option (List ℕ)) (written after : Option (List ℕ)) (exit : Exit) (s u : State) → AreRowsAdded day text written after exit s u → LeadsBy (AreFirstRows day text) s u
+imported_to day text written after exit s u it =
+    let o = it.outcome in
+    let reached = rows_to day s it.reached o.rows o.answers it.came.done in
+    elim it.state [ inl is ↦ rows_alone day text s it.reached u o.rows reached o.why it.came.fits is | inr more ↦ row_more day text s it.reached u o.rows reached o.why it.came.fits more ]
 
 reading_to : {Is : Type 0} (written after : Option (List ℕ)) (exit : Exit) (s u : State) → ReadsAt Is written after exit s u → LeadsBy (λ done. done ≡ []) s u
 reading_to written after exit s u (inl alone) = none_to (λ done. done ≡ []) s u refl alone.untouched.0
@@ -91,7 +104,7 @@ order_to : (order : Command) (text : List ℕ) (written after : Option (List ℕ
 order_to (command.apply file acts) text written after exit s u (inl (none, why)) = none_to (λ done. (done ≡ []) ⊎ AreFirstActs text done) s u (inl refl) none.0
 order_to (command.apply file acts) text written after exit s u (inr it) =
     as_kind (AreFirstActs text) (λ done. (done ≡ []) ⊎ AreFirstActs text done) (λ done are. inr are) s u (acts_to text s u it.acts it.outcome it.read it.formed it.state)
-order_to (command.import file day csv) text written after exit s u (inl (none, why)) = none_to (λ done. (done ≡ []) ⊎ AreFirstRows day (option_map strip_bom (Some text)) done) s u (inl refl) none.0
+order_to (command.import file day csv) text written after exit s u (inl alone) = none_to (λ done. (done ≡ []) ⊎ AreFirstRows day (option_map strip_bom (Some text)) done) s u (inl refl) alone.untouched.0
 order_to (command.import file day csv) text written after exit s u (inr it) =
     let csv_text = option_map strip_bom (Some text) in
     as_kind (AreFirstRows day csv_text) (λ done. (done ≡ []) ⊎ AreFirstRows day csv_text done) (λ done are. inr are) s u (imported_to day csv_text written after exit s u it)

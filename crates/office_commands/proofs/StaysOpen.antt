@@ -1,5 +1,5 @@
 -- A command that exits without a fault leaves its connection open.
-use Rattle.std.proofs.Common.{◌≡◌, inl, inr, ℕ, ℤ, List, Option, Some, Result, Ok, Err, IsTrue, sym, subst}
+use Rattle.std.proofs.Common.{◌≡◌, ◌∙◌, inl, inr, ℕ, ℤ, List, Option, Some, Result, IsTrue, ap, sym, subst}
 use Rattle.std.specs.Prelude.{option_map}
 use Rattle.csv.specs.Reading.{strip_bom}
 use Rattle.sqlite.specs.Held.{Held, state}
@@ -7,18 +7,20 @@ use Rattle.sqlite.specs.State.{State as FileState}
 use Rattle.sqlite_trees.specs.declared.store.Store.{Ghosts}
 use Rattle.office_rules.specs.State.{Office, State}
 use Rattle.office_rules.specs.declared.act.Act.{Act}
+use Rattle.office_rules.specs.declared.answer.Answer.{Answer}
 use Rattle.office_desk.specs.Outcomes.{ActsCameTo, ActsOutcome, all_done, answers_of, stopped}
 use Rattle.office_desk.specs.Resumptions.{RunLeft, RunOutcome, none_open, run_closed, run_stopped}
 use Rattle.office_json.specs.Answers.{answer_lines}
 use Rattle.office_wire.specs.declared.record_import.ImportStop.{ImportStop}
-use Rattle.office_wire.specs.declared.record_import.ImportStop.TheVariants as import
+use Rattle.office_csv.specs.ImportRows.{Fields}
+use Rattle.office_wire.specs.Importing.{ImportEnd, result_by, row_stopped}
 use Rattle.office_command_line.specs.Orders as command
 use Rattle.office_command_line.specs.Orders.{Command}
 use Rattle.office_commands.specs.Applying.{TextEnds}
 use Rattle.office_commands.specs.Calling.{Reports}
 use Rattle.office_commands.specs.ExitStatuses.{exit_of_acts}
 use Rattle.office_commands.specs.FileAlone.{IsFaultless}
-use Rattle.office_commands.specs.Importing.{AreImported, ImportEnds, exit_of_import}
+use Rattle.office_commands.specs.Importing.{AreImported, ImportEnds, ImportLeaves, exit_of_import}
 use Rattle.office_commands.specs.Opening.{EndsOpenFailed, IsOpened, WasFound}
 use Rattle.office_commands.specs.Resuming.{IsRunReported, ResumeEnds}
 use Rattle.office_commands.specs.Running.{RunEnds}
@@ -45,12 +47,12 @@ module _ (old new : FileState) (s : State) (was : WasFound old new s) (written a
 
   -- ---- import
 
+  imported_by : (day : ℤ) (rows : List Fields) (replies : List Answer) (why : ImportEnd) (u : State) → exit ≡ exit_of_import (result_by rows replies why) → ImportLeaves day u why new → IsOn
+  imported_by day rows replies (row_stopped row f) u is left = absurd (fine.0 f is)
+  imported_by day rows replies why u is left = left.rest.is_open
+
   imported_on : (day : ℤ) (text : Option (List ℕ)) (done : Result ℕ ImportStop) → exit ≡ exit_of_import done → AreImported day text done new written after s → IsOn
-  imported_on day text (Ok refused) is (fs, reported, u, r, it, none) = it.saved.rest.is_open
-  imported_on day text (Err import.Header) is it = it.1.rest.is_open
-  imported_on day text (Err (import.Row number)) is (fs, reported, u, r, it, at) = it.saved.rest.is_open
-  imported_on day text (Err (import.Fault f)) is it = absurd (fine.0 f is)
-  imported_on day text (Err import.Io) is it = absurd (fine.1 is)
+  imported_on day text done is (o, u, gives, came, left) = imported_by day o.rows o.answers o.why u (is ∙ ap exit_of_import gives) left
 
   import_on : (day : ℤ) (text : Option (List ℕ)) → ImportEnds day text old new written after exit → IsOn
   import_on day text (inl none) = not_opened none

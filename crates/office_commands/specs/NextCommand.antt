@@ -1,9 +1,7 @@
 -- From one command of the program to the next: at which state a command leaves an office, and what its two files hold
 -- then. Source: own.
-use Rattle.std.specs.Prelude.{◌≡◌, ◌⊎◌, ◌+◌, ◌≤◌, ℕ, ℤ, IfSome, IsTrue, List, [], ◌∷◌, ◌++◌, length, take, Option, Ok, Err, Some, option_map, Result}
-use Rattle.std.specs.Io.KnownBytes.{Appends}
+use Rattle.std.specs.Prelude.{◌≡◌, ◌⊎◌, ◌+◌, ◌≤◌, ℕ, ℤ, IfSome, IsTrue, List, length, take, Option, Ok, Err, Some, option_map}
 use Rattle.csv.specs.Reading.{strip_bom}
-use Rattle.csv.specs.declared.parser.State.TheVariants.{StartRecord}
 use Rattle.sqlite_disk.specs.declared.Disk.{Ghosts}
 use Rattle.sqlite_store.specs.FileStore.{recovers, state as store_state, view}
 use Rattle.sqlite_store.specs.Unopened.{state_of as unopened_state}
@@ -35,11 +33,7 @@ use Rattle.office_command_line.specs.Orders.{Command}
 use Rattle.office_command_line.specs.declared.register.Register.TheVariants as register
 use Rattle.office_json.specs.Answers.{answer_lines}
 use Rattle.office_json.specs.Lists.{NoActs, acts_in}
-use Rattle.office_csv.specs.ImportRows.{Fields}
-use Rattle.office_csv.specs.ImportText.{LacksHeader}
-use Rattle.office_wire.specs.Importing.{AreAllRows, AreLinesOut, ArePrefixRows, AreRowsDone, AreSomeRows, IsRowDone, lines_from, refused_count}
-use Rattle.office_wire.specs.declared.record_import.ImportStop.{ImportStop}
-use Rattle.office_wire.specs.declared.record_import.ImportStop.TheVariants as import
+use Rattle.office_wire.specs.Importing.{AreAllRows, ImportCameTo, ImportEnd, ImportOutcome, IsRowDone, import_result, row_stopped}
 use Rattle.office_commands.specs.Applying.{exit_of_none}
 use Rattle.office_commands.specs.Calling.{Reports}
 use Rattle.office_commands.specs.Certifying.{Certifies}
@@ -113,39 +107,22 @@ pub record AreActsDone (text : List ℕ) (written after : Option (List ℕ)) (ex
   -- all of them, if the exit says so
   pub all : SaysAll exit → u ≡ after_acts s acts
 
--- why an import ended after these rows: none was left, and so many of them were refused; the next is no row of the
--- text, and has that number; a fault stopped it; or reading or writing failed
-abbrev pub IsEndOfRows : List Fields → List Answer → Result ℕ ImportStop → Type 0
-IsEndOfRows rows answers (Ok refused) = refused ≡ refused_count answers
-IsEndOfRows rows answers (Err import.Header) = ⊥
-IsEndOfRows rows answers (Err (import.Row number)) = number ≡ length rows + 1
-IsEndOfRows rows answers (Err (import.Fault f)) = Unit {0}
-IsEndOfRows rows answers (Err import.Io) = Unit {0}
+-- the record of the row that a fault stopped is added too
+abbrev pub IsOneMore : ℤ → State → ImportEnd → State → Type 0
+IsOneMore day t (row_stopped row f) u = (answer : Answer) × IsRowDone day t row answer u
+IsOneMore day t _ u = ⊥
 
--- rows of the text were added, in their order: those whose lines were written, and at most one more, which is a row of
--- the text too; where writing failed, all of them have their lines, but for a part of the last one's
+-- an import of the text came to an outcome, which the exit reports: the rows of the outcome were added, in their order,
+-- and at most the next one
 pub record AreRowsAdded (day : ℤ) (text : Option (List ℕ)) (written after : Option (List ℕ)) (exit : Exit)
     (s u : State) : Type 0 where
-  pub rows : List Fields
-  pub answers : List Answer
+  pub outcome : ImportOutcome
   pub reached : State
-  pub begins : (more : List Fields) × ArePrefixRows text (rows ++ more)
-  pub done : AreRowsDone day s rows answers reached
-  pub answered : Appends written after (lines_from 0 answers) ⊎ (exit ≡ how.File) × AreLinesOut answers written after
-  pub state : (u ≡ reached)
-      ⊎ ((row : Fields) × (answer : Answer) × AreSomeRows text (rows ++ row ∷ []) × IsRowDone day reached row answer u)
-  -- the exit says why it ended
-  pub ended : Result ℕ ImportStop
-  pub reported : exit ≡ exit_of_import ended
-  pub why : IsEndOfRows rows answers ended
+  pub came : ImportCameTo day s text outcome reached written after
+  pub reported : exit ≡ exit_of_import (import_result outcome)
+  pub state : (u ≡ reached) ⊎ IsOneMore day reached outcome.why u
   -- all of them, if the exit says so
-  pub all : SaysAll exit → AreAllRows text rows × (u ≡ reached)
-
--- why no row of a text was added: a fault by which the opening of the office may stop; or the text lacks the row that
--- names the columns
-abbrev pub IsNotImported : State → Option (List ℕ) → Exit → Type 0
-IsNotImported s text exit =
-    ((f : Fault) × (exit ≡ how.Fault f) × StopsOffice s f) ⊎ (exit ≡ how.CsvHeader) × LacksHeader StartRecord text
+  pub all : SaysAll exit → AreAllRows text outcome.rows × (u ≡ reached)
 
 -- the state that a resumption of so many steps leaves: the whole of the run that it closed; the same, if none was open;
 -- if a fault stopped the resumption, one step is left behind those that were taken, and that one may be done too
@@ -180,8 +157,7 @@ abbrev pub IsLeftBy : Command → List ℕ → Option (List ℕ) → Option (Lis
 IsLeftBy (command.apply file acts) text written after exit s u =
     IsUntouched written after s u × IsNotApplied s text exit ⊎ AreActsDone text written after exit s u
 IsLeftBy (command.import file day csv) text written after exit s u =
-    IsUntouched written after s u × IsNotImported s (option_map strip_bom (Some text)) exit
-    ⊎ AreRowsAdded day (option_map strip_bom (Some text)) written after exit s u
+    IsFaultAlone written after exit s u ⊎ AreRowsAdded day (option_map strip_bom (Some text)) written after exit s u
 IsLeftBy (command.resume file) text written after exit s u =
     IsFaultAlone written after exit s u ⊎ IsRunResumed written after exit s u
 IsLeftBy (command.init file) text written after exit s u =

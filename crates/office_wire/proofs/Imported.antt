@@ -24,12 +24,12 @@ use Rattle.office_rules.specs.Parts.{fault_of}
 use Rattle.office_rules.specs.declared.read_fault.ReadFault.TheVariants.{Refused, Memory}
 use Rattle.office_json.proofs.Appending.{appends_both}
 use Rattle.office_csv.specs.ImportRows.{Fields, parsed_row, fields_in}
-use Rattle.office_csv.specs.ImportText.{AreAtPrefix, HeadsText, TakesNoText}
+use Rattle.office_csv.specs.ImportText.{AreAtPrefix, HeadsText, LacksHeader, TakesNoText}
 use Rattle.office_csv.specs.declared.import_text.RowStop.{RowStop}
 use Rattle.office_csv.specs.declared.import_text.RowStop.TheVariants as row_stop
 use Rattle.office_csv.proofs.Prefix.{bad_next, bad_text, no_more, none_yet, one_more}
 use Rattle.office_wire.specs.Calling.{CalledAt}
-use Rattle.office_wire.specs.Importing.{ArePrefixRows, AreImported, AreRowsBehind, AreRowsDone, AreSomeRows, EndsImport, EndsLine, EndsRow, EndsRows, EndsTaking, Imports, IsRowDone, IsRowStopped, RowsStop, Stops, StopsAtFault, StopsAtIo, TakeStops, line_of, lines_from, one_if, refused_count, stop_at}
+use Rattle.office_wire.specs.Importing.{AreAllRows, AreReported, AreRowsDone, AreSomeRows, EndsImport, EndsRow, EndsTaking, FitsText, ImportEnd, ImportLeads, ImportOutcome, IsRowDone, TakeStops, all_rows, bad_row, io_failed, line_of, lines_from, no_header, out_of_memory, one_if, refused_count, result_by, row_stopped, stop_at}
 use Rattle.office_wire.specs.declared.record_import.ImportStop.{ImportStop}
 use Rattle.office_wire.specs.declared.record_import.ImportStop.TheVariants as stop
 use Rattle.office_wire.proofs.Calls.{called, called_on, not_called}
@@ -44,11 +44,11 @@ row_ended g day s row act (Ok answer) old desk read it came =
 row_ended g day s row act (Err f) old desk read it came = inr (act, read, it.formed, (it.leads, came.leaves))
 
 -- no act was read, since a field is not of its form or out of its range
-pub bad_row : (x : Result Act Refusal) (why : Refusal) → (Refused why ≡ Memory) ⊎ (Refused why ≡ fault_of x) → x ≡ Err why
-bad_row (Ok act) why (inl e) = cc
-bad_row (Ok act) why (inr e) = cc
-bad_row (Err other) why (inl e) = cc
-bad_row (Err other) why (inr e) = cc
+pub row_refused : (x : Result Act Refusal) (why : Refusal) → (Refused why ≡ Memory) ⊎ (Refused why ≡ fault_of x) → x ≡ Err why
+row_refused (Ok act) why (inl e) = cc
+row_refused (Ok act) why (inr e) = cc
+row_refused (Err other) why (inl e) = cc
+row_refused (Err other) why (inr e) = cc
 
 -- ---- rows
 
@@ -76,19 +76,9 @@ reported_more : (old mid new : Option (List ℕ)) (answers : List Answer) (answe
 reported_more old mid new answers answer number e h k =
     rw (lines_more 0 answers answer) (appends_both old mid new _ _ h (subst (λ (n : ℕ). Appends mid new (line_of n answer)) (e ∙ omega arith) k))
 
-none_imported : {S : Type 0} (g : Ghosts S) (day : ℤ) (s : State) (desk : DeskState S) (old : Option (List ℕ)) → IsAt g s desk → AreImported g day s [] [] s desk old old
-none_imported g day s desk None represents = record { done = (refl, refl); represents = represents; reported = tt }
-none_imported g day s desk (Some xs) represents = record { done = (refl, refl); represents = represents; reported = sym (append-nil xs) }
-
-one_imported : {S : Type 0} (g : Ghosts S) (day : ℤ) (s : State) (rows : List Fields) (answers : List Answer) (m t : State) (row : Fields) (answer : Answer) (mid desk : DeskState S) (old seen new : Option (List ℕ)) (number : ℕ)
-    → AreImported g day s rows answers m mid old seen → IsRowDone day m row answer t → IsAt g t desk → Appends seen new (line_of number answer) → number ≡ length rows + 1
-    → AreImported g day s (rows ++ row ∷ []) (answers ++ answer ∷ []) t desk old new
-one_imported g day s rows answers m t row answer mid desk old seen new number it one represents line e =
-    record {
-      done = done_more day s rows answers m row answer t it.done one;
-      represents = represents;
-      reported = reported_more old seen new answers answer number (e ∙ ap (λ (n : ℕ). n + 1) (sym (as_many day s rows answers m it.done))) it.reported line;
-    }
+nothing_reported : (old : Option (List ℕ)) → Appends old old (lines_from 0 [])
+nothing_reported None = tt
+nothing_reported (Some xs) = sym (append-nil xs)
 
 -- ---- how far an import has come
 
@@ -99,7 +89,9 @@ pub record IsPrefix {S : Type 0} (g : Ghosts S) (day : ℤ) (s : State) (s0 : Re
   pub last : State
   pub prefix : AreAtPrefix s0 o0 rows s1 o1
   pub count : before ≡ length rows
-  pub imported : AreImported g day s rows answers last d w0 w
+  pub done : AreRowsDone day s rows answers last
+  pub represents : IsAt g last d
+  pub reported : Appends w0 w (lines_from 0 answers)
   pub refusals : refused ≡ refused_count answers
 
 pub record Prefix {S : Type 0} (g : Ghosts S) (day : ℤ) (s0 : Reading) (o0 : Option (List ℕ)) (s1 : Reading) (o1 : Option (List ℕ)) (d0 d : DeskState S) (w0 w : Option (List ℕ)) (before refused : ℕ) : Type 0 where
@@ -117,7 +109,9 @@ prefix_start g day s0 o0 d0 w0 =
             last = s;
             prefix = none_yet o0 s0;
             count = refl;
-            imported = none_imported g day s d0 w0 at;
+            done = (refl, refl);
+            represents = at;
+            reported = nothing_reported w0;
             refusals = refl;
           });
     }
@@ -141,7 +135,9 @@ module _ {S : Type 0} (g : Ghosts S) (day : ℤ) (s0 s1 s2 : Reading) (o0 o1 o2 
         last = t;
         prefix = row_read it.rows row it.prefix is;
         count = omega (arith, it.count, length-append it.rows (row ∷ []));
-        imported = one_imported g day s it.rows it.answers it.last t row answer d d2 w0 w w2 (before + 1) it.imported one represents line (ap (λ (n : ℕ). n + 1) it.count);
+        done = done_more day s it.rows it.answers it.last row answer t it.done one;
+        represents = represents;
+        reported = reported_more w0 w w2 it.answers answer (before + 1) (ap (λ (n : ℕ). n + 1) (it.count ∙ sym (as_many day s it.rows it.answers it.last it.done))) it.reported line;
         refusals = ap (λ (n : ℕ). n + one_if is_refused) it.refusals ∙ ap (λ (b : Bool). refused_count it.answers + one_if b) same ∙ sym (count_more it.answers answer);
       }
 
@@ -151,106 +147,94 @@ module _ {S : Type 0} (g : Ghosts S) (day : ℤ) (s0 s1 s2 : Reading) (o0 o1 o2 
       record {
         few = few_more before refused is_refused f.few;
         call = called_on g d0 d d2 (λ s. IsPrefix g day s s0 o0 s1 o1 d w0 w before refused) (λ s. EndsTaking g day s (before + 1) fields (Ok is_refused) d2 w w2)
-            (λ s. IsPrefix g day s s0 o0 s2 o2 d2 w0 w2 (before + 1) (refused + one_if is_refused)) f.call took (λ s it. (it.last, it.imported.represents, λ row. row_more s is_refused it row));
+            (λ s. IsPrefix g day s s0 o0 s2 o2 d2 w0 w2 (before + 1) (refused + one_if is_refused)) f.call took (λ s it. (it.last, it.represents, λ row. row_more s is_refused it row));
       }
 
   -- what was read was stopped
-  row_stopped : (s : State) (why : ImportStop) (it : IsPrefix g day s s0 o0 s1 o1 d w0 w before refused) → TakeStops g day it.last (before + 1) fields why d2 w w2 → RowsStop g day s s0 o0 why d2 w0 w2
-  row_stopped s stop.Header it k = absurd k
-  row_stopped s (stop.Row number) it (place, short, represents, silent) = (
-    it.rows,
-    it.answers,
-    it.last,
-    (s1, o1, it.prefix, bad_next o1 o2 s1 s2 fields reads short),
-    record { done = it.imported.done; represents = represents; reported = subst (λ (x : Option (List ℕ)). Appends w0 x (lines_from 0 it.answers)) (sym silent) it.imported.reported },
-    place ∙ ap (λ (n : ℕ). n + 1) it.count,
-  )
-  row_stopped s (stop.Fault f) it (row, is, (silent, stopped)) = (
-    it.rows,
-    it.answers,
-    it.last,
-    it.imported.done,
-    subst (λ (x : Option (List ℕ)). Appends w0 x (lines_from 0 it.answers)) (sym silent) it.imported.reported,
-    inr (row, (s2, o2, row_read it.rows row it.prefix is), stopped),
-  )
-  row_stopped s stop.Io it (row, is, (answer, t, one, represents, some)) = (
-    it.rows ++ row ∷ [],
-    it.answers ++ answer ∷ [],
-    t,
-    (s2, o2, row_read it.rows row it.prefix is),
-    done_more day s it.rows it.answers it.last row answer t it.imported.done one,
-    represents,
-    inr (it.answers, answer, w, refl, it.imported.reported, subst (λ (n : ℕ). AppendsSome w w2 (line_of (n + 1) answer)) (it.count ∙ sym (as_many day s it.rows it.answers it.last it.imported.done)) some),
-  )
+  module _ (text : Option (List ℕ)) (heads : HeadsText StartRecord text s0 o0) where
+    row_stopped_by : (s : State) (why : ImportStop) (it : IsPrefix g day s s0 o0 s1 o1 d w0 w before refused) → TakeStops g day it.last (before + 1) fields why d2 w w2 → EndsImport g day s text (Err why) d2 w0 w2
+    row_stopped_by s stop.Header it k = absurd k
+    row_stopped_by s (stop.Row number) it (place, short, represents, silent) = (
+      record { rows = it.rows; answers = it.answers; why = bad_row },
+      it.last,
+      ap (λ (n : ℕ). Err (stop.Row n)) (place ∙ ap (λ (n : ℕ). n + 1) it.count),
+      record {
+        fits = (s1, o1, (s0, o0, heads, it.prefix), bad_next o1 o2 s1 s2 fields reads short);
+        done = it.done;
+        reported = subst (λ (x : Option (List ℕ)). Appends w0 x (lines_from 0 it.answers)) (sym silent) it.reported;
+      },
+      represents,
+    )
+    row_stopped_by s (stop.Fault f) it (row, is, stopped, silent) = (
+      record { rows = it.rows; answers = it.answers; why = row_stopped row f },
+      it.last,
+      refl,
+      record {
+        fits = (s2, o2, (s0, o0, heads, row_read it.rows row it.prefix is));
+        done = it.done;
+        reported = subst (λ (x : Option (List ℕ)). Appends w0 x (lines_from 0 it.answers)) (sym silent) it.reported;
+      },
+      stopped,
+    )
+    row_stopped_by s stop.Io it (row, answer, t, is, one, represents, some) = (
+      record { rows = it.rows ++ row ∷ []; answers = it.answers ++ answer ∷ []; why = io_failed },
+      t,
+      refl,
+      record {
+        fits = inr (s2, o2, (s0, o0, heads, row_read it.rows row it.prefix is));
+        done = done_more day s it.rows it.answers it.last row answer t it.done one;
+        reported = inr (it.answers, answer, w, refl, it.reported, subst (λ (n : ℕ). AppendsSome w w2 (line_of (n + 1) answer)) (it.count ∙ sym (as_many day s it.rows it.answers it.last it.done)) some);
+      },
+      represents,
+    )
 
-  pub prefix_stopped : (why : ImportStop) → Prefix g day s0 o0 s1 o1 d0 d w0 w before refused → CalledAt g d d2 (λ s. EndsTaking g day s (before + 1) fields (Err why) d2 w w2)
-      → CalledAt g d0 d2 (λ s. EndsRows g day s s0 o0 (Err why) d2 w0 w2)
-  prefix_stopped why f stops =
-      called_on g d0 d d2 (λ s. IsPrefix g day s s0 o0 s1 o1 d w0 w before refused) (λ s. EndsTaking g day s (before + 1) fields (Err why) d2 w w2) (λ s. EndsRows g day s s0 o0 (Err why) d2 w0 w2)
-      f.call stops (λ s it. (it.last, it.imported.represents, λ k. row_stopped s why it k))
+    pub prefix_stopped : (why : ImportStop) → Prefix g day s0 o0 s1 o1 d0 d w0 w before refused → CalledAt g d d2 (λ s. EndsTaking g day s (before + 1) fields (Err why) d2 w w2)
+        → CalledAt g d0 d2 (λ s. EndsImport g day s text (Err why) d2 w0 w2)
+    prefix_stopped why f stops =
+        called_on g d0 d d2 (λ s. IsPrefix g day s s0 o0 s1 o1 d w0 w before refused) (λ s. EndsTaking g day s (before + 1) fields (Err why) d2 w w2) (λ s. EndsImport g day s text (Err why) d2 w0 w2)
+        f.call stops (λ s it. (it.last, it.represents, λ k. row_stopped_by s why it k))
 
-module _ {S : Type 0} (g : Ghosts S) (day : ℤ) (s0 s1 : Reading) (o0 o1 : Option (List ℕ)) (d0 d : DeskState S) (w0 w : Option (List ℕ)) (before refused : ℕ) (f : Prefix g day s0 o0 s1 o1 d0 d w0 w before refused) where
+module _ {S : Type 0} (g : Ghosts S) (day : ℤ) (s0 s1 : Reading) (o0 o1 : Option (List ℕ)) (d0 d : DeskState S) (w0 w : Option (List ℕ)) (before refused : ℕ) (f : Prefix g day s0 o0 s1 o1 d0 d w0 w before refused)
+    (text : Option (List ℕ)) (heads : HeadsText StartRecord text s0 o0) where
+  -- the import ends after these rows
+  ended : (s : State) (why : ImportEnd) (it : IsPrefix g day s s0 o0 s1 o1 d w0 w before refused) → FitsText text it.rows why → AreReported it.answers why w0 w → ImportLeads g day it.last why d → EndsImport g day s text (result_by it.rows it.answers why) d w0 w
+  ended s why it fits reported leads = (record { rows = it.rows; answers = it.answers; why = why }, it.last, refl, record { fits = fits; done = it.done; reported = reported }, leads)
+
+  ended_at : (result : Result ℕ ImportStop) → ((s : State) → IsPrefix g day s s0 o0 s1 o1 d w0 w before refused → EndsImport g day s text result d w0 w) → CalledAt g d0 d (λ s. EndsImport g day s text result d w0 w)
+  ended_at result to = called g d0 d (λ s. IsPrefix g day s s0 o0 s1 o1 d w0 w before refused) (λ s. EndsImport g day s text result d w0 w) f.call to
+
   -- no row is left
-  pub prefix_end : (s2 : Reading) (o2 : Option (List ℕ)) (fields : List (List ℕ)) → ReadsNext default_config s1 o1 o2 false fields s2 → CalledAt g d0 d (λ s. EndsRows g day s s0 o0 (Ok refused) d w0 w)
+  pub prefix_end : (s2 : Reading) (o2 : Option (List ℕ)) (fields : List (List ℕ)) → ReadsNext default_config s1 o1 o2 false fields s2 → CalledAt g d0 d (λ s. EndsImport g day s text (Ok refused) d w0 w)
   prefix_end s2 o2 fields reads =
-      called g d0 d (λ s. IsPrefix g day s s0 o0 s1 o1 d w0 w before refused) (λ s. EndsRows g day s s0 o0 (Ok refused) d w0 w) f.call
-      (λ s it. (it.rows, it.answers, it.last, (s1, o1, it.prefix, no_more o1 o2 s1 s2 fields reads), it.imported, it.refusals))
+      ended_at (Ok refused) (λ s it. rw it.refusals (ended s all_rows it (s1, o1, (s0, o0, heads, it.prefix), no_more o1 o2 s1 s2 fields reads) it.reported it.represents))
 
   -- no row was read
-  unread : (s : State) (why : RowStop) → (why ≡ row_stop.NotText → TakesNoText s1 o1) → IsPrefix g day s s0 o0 s1 o1 d w0 w before refused → RowsStop g day s s0 o0 (stop_at why (before + 1)) d w0 w
-  unread s row_stop.NotText none it = (it.rows, it.answers, it.last, (s1, o1, it.prefix, bad_text o1 s1 (none refl)), it.imported, ap (λ (n : ℕ). n + 1) it.count)
-  unread s row_stop.Memory none it = (it.rows, it.answers, it.last, it.imported.done, it.imported.reported, inl (refl, (s1, o1, it.prefix), it.imported.represents))
-  unread s row_stop.Io none it = (it.rows, it.answers, it.last, (s1, o1, it.prefix), it.imported.done, it.imported.represents, inl it.imported.reported)
+  unread : (s : State) (why : RowStop) → (why ≡ row_stop.NotText → TakesNoText s1 o1) → IsPrefix g day s s0 o0 s1 o1 d w0 w before refused → EndsImport g day s text (Err (stop_at why (before + 1))) d w0 w
+  unread s row_stop.NotText none it = rw it.count (ended s bad_row it (s1, o1, (s0, o0, heads, it.prefix), bad_text o1 s1 (none refl)) it.reported it.represents)
+  unread s row_stop.Memory none it = ended s out_of_memory it (inr (s1, o1, (s0, o0, heads, it.prefix))) it.reported it.represents
+  unread s row_stop.Io none it = ended s io_failed it (inr (s1, o1, (s0, o0, heads, it.prefix))) (inl it.reported) it.represents
 
-  pub prefix_unread : (why : RowStop) → (why ≡ row_stop.NotText → TakesNoText s1 o1) → CalledAt g d0 d (λ s. EndsRows g day s s0 o0 (Err (stop_at why (before + 1))) d w0 w)
-  prefix_unread why none =
-      called g d0 d (λ s. IsPrefix g day s s0 o0 s1 o1 d w0 w before refused) (λ s. EndsRows g day s s0 o0 (Err (stop_at why (before + 1))) d w0 w) f.call (λ s it. unread s why none it)
+  pub prefix_unread : (why : RowStop) → (why ≡ row_stop.NotText → TakesNoText s1 o1) → CalledAt g d0 d (λ s. EndsImport g day s text (Err (stop_at why (before + 1))) d w0 w)
+  prefix_unread why none = ended_at (Err (stop_at why (before + 1))) (λ s it. unread s why none it)
 
   -- there are more rows than are counted
-  pub prefix_io : CalledAt g d0 d (λ s. EndsRows g day s s0 o0 (Err stop.Io) d w0 w)
-  prefix_io =
-      called g d0 d (λ s. IsPrefix g day s s0 o0 s1 o1 d w0 w before refused) (λ s. EndsRows g day s s0 o0 (Err stop.Io) d w0 w) f.call
-      (λ s it. (it.rows, it.answers, it.last, (s1, o1, it.prefix), it.imported.done, it.imported.represents, inl it.imported.reported))
+  pub prefix_io : CalledAt g d0 d (λ s. EndsImport g day s text (Err stop.Io) d w0 w)
+  prefix_io = ended_at (Err stop.Io) (λ s it. ended s io_failed it (inr (s1, o1, (s0, o0, heads, it.prefix))) (inl it.reported) it.represents)
 
--- a row of seven fields
-pub taken : {S : Type 0} (g : Ghosts S) (day : ℤ) (s : State) (number : ℕ) (fields : List (List ℕ)) (row : Fields) (x : Result Bool ImportStop) (desk : DeskState S) (old new : Option (List ℕ)) → fields ≡ fields_in row
-    → EndsLine g day s number row x desk old new → EndsTaking g day s number fields x desk old new
-taken g day s number fields row (Ok refused) desk old new e it = (row, e, it)
-taken g day s number fields row (Err stop.Header) desk old new e it = it
-taken g day s number fields row (Err (stop.Row n)) desk old new e it = absurd it
-taken g day s number fields row (Err (stop.Fault f)) desk old new e it = (row, e, it)
-taken g day s number fields row (Err stop.Io) desk old new e it = (row, e, it)
+-- ---- before the first row
 
--- ---- with the header before the rows
+module _ {S : Type 0} (g : Ghosts S) (day : ℤ) (s : State) (text : Option (List ℕ)) (d : DeskState S) (w : Option (List ℕ)) (at : IsAt g s d) where
+  none_done : (why : ImportEnd) → FitsText text [] why → AreReported [] why w w → ImportLeads g day s why d → EndsImport g day s text (result_by [] [] why) d w w
+  none_done why fits reported leads = (record { rows = []; answers = []; why = why }, s, refl, record { fits = fits; done = (refl, refl); reported = reported }, leads)
 
-some_behind : (s1 : Reading) (o o1 : Option (List ℕ)) (rows : List Fields) → HeadsText StartRecord o s1 o1 → AreRowsBehind s1 o1 rows → AreSomeRows o rows
-some_behind s1 o o1 rows heads it = (it.0, it.1, (s1, o1, heads, it.2))
+  pub not_headed : LacksHeader StartRecord text → EndsImport g day s text (Err stop.Header) d w w
+  not_headed lacks = none_done no_header (lacks, refl) refl at
 
-fault_behind : {S : Type 0} (g : Ghosts S) (day : ℤ) (s1 : Reading) (o o1 : Option (List ℕ)) (f : Fault) (t : State) (rows : List Fields) (d : DeskState S) → HeadsText StartRecord o s1 o1
-    → (f ≡ fault.Memory) × AreRowsBehind s1 o1 rows × IsAt g t d ⊎ ((row : Fields) × AreRowsBehind s1 o1 (rows ++ row ∷ []) × IsRowStopped g day t row f d)
-    → (f ≡ fault.Memory) × ArePrefixRows o rows × IsAt g t d ⊎ ((row : Fields) × AreSomeRows o (rows ++ row ∷ []) × IsRowStopped g day t row f d)
-fault_behind g day s1 o o1 f t rows d heads (inl it) = inl (it.0, inr (some_behind s1 o o1 rows heads it.1), it.2)
-fault_behind g day s1 o o1 f t rows d heads (inr it) = inr (it.0, some_behind s1 o o1 (rows ++ it.0 ∷ []) heads it.1, it.2)
+  pub memory_ran_out : EndsImport g day s text (Err (stop.Fault fault.Memory)) d w w
+  memory_ran_out = none_done out_of_memory (inl refl) (nothing_reported w) at
 
-stops_behind : {S : Type 0} (g : Ghosts S) (day : ℤ) (s1 : Reading) (o o1 : Option (List ℕ)) (s : State) (d : DeskState S) (w0 w : Option (List ℕ)) (why : ImportStop) → HeadsText StartRecord o s1 o1 → RowsStop g day s s1 o1 why d w0 w → Stops g day s o why d w0 w
-stops_behind g day s1 o o1 s d w0 w stop.Header heads it = absurd it
-stops_behind g day s1 o o1 s d w0 w (stop.Row number) heads it = (it.0, it.1, it.2, (it.3.0, it.3.1, (s1, o1, heads, it.3.2), it.3.3), it.4, it.5)
-stops_behind g day s1 o o1 s d w0 w (stop.Fault f) heads it = (it.0, it.1, it.2, it.3, it.4, fault_behind g day s1 o o1 f it.2 it.0 d heads it.5)
-stops_behind g day s1 o o1 s d w0 w stop.Io heads it = (it.0, it.1, it.2, inr (some_behind s1 o o1 it.0 heads it.3), it.4, it.5, it.6)
-
-pub headed : {S : Type 0} (g : Ghosts S) (day : ℤ) (s1 : Reading) (o o1 : Option (List ℕ)) (s : State) (x : Result ℕ ImportStop) (d : DeskState S) (w0 w : Option (List ℕ)) → HeadsText StartRecord o s1 o1 → EndsRows g day s s1 o1 x d w0 w
-    → EndsImport g day s o x d w0 w
-headed g day s1 o o1 s (Ok refused) d w0 w heads (rows, answers, t, (s2, rest, prefix, ended), imported, is) = (rows, answers, t, (s2, rest, (s1, o1, heads, prefix), ended), imported, is)
-headed g day s1 o o1 s (Err why) d w0 w heads it = stops_behind g day s1 o o1 s d w0 w why heads it
-
--- nothing was done yet
-pub none_done : {S : Type 0} (g : Ghosts S) (day : ℤ) (s : State) (o : Option (List ℕ)) (d : DeskState S) (w : Option (List ℕ)) → IsAt g s d → StopsAtFault g day s o fault.Memory d w w
-none_done g day s o d None represents = ([], [], s, (refl, refl), tt, inl (refl, inl refl, represents))
-none_done g day s o d (Some xs) represents = ([], [], s, (refl, refl), sym (append-nil xs), inl (refl, inl refl, represents))
-
-pub none_read : {S : Type 0} (g : Ghosts S) (day : ℤ) (s : State) (o : Option (List ℕ)) (d : DeskState S) (w : Option (List ℕ)) → IsAt g s d → StopsAtIo g day s o d w w
-none_read g day s o d None represents = ([], [], s, inl refl, (refl, refl), represents, inl tt)
-none_read g day s o d (Some xs) represents = ([], [], s, inl refl, (refl, refl), represents, inl (sym (append-nil xs)))
+  pub none_read : EndsImport g day s text (Err stop.Io) d w w
+  none_read = none_done io_failed (inl refl) (inl (nothing_reported w)) at
 
 -- ---- the lines go out
 
@@ -260,10 +244,26 @@ kept (Some ys) None new xs h k = absurd h
 kept (Some ys) (Some zs) None xs h k = absurd k
 kept (Some ys) (Some zs) (Some us) xs h k = k ∙ h
 
-pub sent : {S : Type 0} (g : Ghosts S) (day : ℤ) (s : State) (o : Option (List ℕ)) (refused : ℕ) (d : DeskState S) (w0 w w2 : Option (List ℕ)) → Keeps w w2 → Imports g day s o refused d w0 w → Imports g day s o refused d w0 w2
-sent g day s o refused d w0 w w2 k it =
-    (it.0, it.1, it.2, it.3, record { done = it.4.done; represents = it.4.represents; reported = kept w0 w w2 _ it.4.reported k }, it.5)
+module _ {S : Type 0} (g : Ghosts S) (day : ℤ) (s : State) (text : Option (List ℕ)) (refused : ℕ) (d : DeskState S) (w0 w w2 : Option (List ℕ)) (keeps : Keeps w w2) where
+  -- an import of which some rows were refused ended after all rows
+  abbrev IsWhole : List Fields → List Answer → State → Type 0
+  IsWhole rows answers u = (refused ≡ refused_count answers) × AreAllRows text rows × AreRowsDone day s rows answers u × Appends w0 w (lines_from 0 answers) × IsAt g u d
 
-pub not_sent : {S : Type 0} (g : Ghosts S) (day : ℤ) (s : State) (o : Option (List ℕ)) (refused : ℕ) (d : DeskState S) (w0 w w2 : Option (List ℕ)) → Keeps w w2 → Imports g day s o refused d w0 w → StopsAtIo g day s o d w0 w2
-not_sent g day s o refused d w0 w w2 k it =
-    (it.0, it.1, it.2, inr (it.3.0, it.3.1, it.3.2), it.4.done, it.4.represents, inl (kept w0 w w2 _ it.4.reported k))
+  whole : (rows : List Fields) (answers : List Answer) (why : ImportEnd) (u : State) → Ok refused ≡ result_by rows answers why → FitsText text rows why → AreRowsDone day s rows answers u → AreReported answers why w0 w → ImportLeads g day u why d → IsWhole rows answers u
+  whole rows answers all_rows u is fits done reported leads = ((cc is), fits, done, reported, leads)
+  whole rows answers no_header u is fits done reported leads = absurd (cc is)
+  whole rows answers bad_row u is fits done reported leads = absurd (cc is)
+  whole rows answers out_of_memory u is fits done reported leads = absurd (cc is)
+  whole rows answers (row_stopped row f) u is fits done reported leads = absurd (cc is)
+  whole rows answers io_failed u is fits done reported leads = absurd (cc is)
+
+  pub sent : EndsImport g day s text (Ok refused) d w0 w → EndsImport g day s text (Ok refused) d w0 w2
+  sent (o, u, is, came, leads) =
+      let it = whole o.rows o.answers o.why u is came.fits came.done came.reported leads in
+      (record { rows = o.rows; answers = o.answers; why = all_rows }, u, ap (λ (n : ℕ). Ok n) it.0, record { fits = it.1; done = it.2; reported = kept w0 w w2 _ it.3 keeps }, it.4)
+
+  pub not_sent : EndsImport g day s text (Ok refused) d w0 w → EndsImport g day s text (Err stop.Io) d w0 w2
+  not_sent (o, u, is, came, leads) =
+      let it = whole o.rows o.answers o.why u is came.fits came.done came.reported leads in
+      let some : AreSomeRows text o.rows = (it.1.0, it.1.1, it.1.2) in
+      (record { rows = o.rows; answers = o.answers; why = io_failed }, u, refl, record { fits = inr some; done = it.2; reported = inl (kept w0 w w2 _ it.3 keeps) }, it.4)

@@ -70,27 +70,6 @@ line_of number kind.Done = decimal number ++ codes "\n"
 line_of number (kind.Step r outcome) = decimal number ++ codes "\n"
 line_of number (kind.RunClosed n) = decimal number ++ codes "\n"
 
--- what stopped a row of seven fields: a fault, or its line could not be written whole
-abbrev pub DoStops : {S : Type 0} → Ghosts S → ℤ → State → ℕ → Fields → ImportStop → DeskState S → Option (List ℕ)
-    → Option (List ℕ) → Type 0
-DoStops g day s number row stop.Header desk old new = ⊥
-DoStops g day s number row (stop.Row place) desk old new = ⊥
-DoStops g day s number row (stop.Fault f) desk old new = (new ≡ old) × IsRowStopped g day s row f desk
-DoStops g day s number row stop.Io desk old new =
-    (answer : Answer) × (t : State) × IsRowDone day s row answer t × IsAt g t desk
-    × AppendsSome old new (line_of number answer)
-
--- and one of any number of fields
-abbrev pub TakeStops : {S : Type 0} → Ghosts S → ℤ → State → ℕ → List (List ℕ) → ImportStop → DeskState S
-    → Option (List ℕ) → Option (List ℕ) → Type 0
-TakeStops g day s place fields stop.Header desk old new = ⊥
-TakeStops g day s place fields (stop.Row number) desk old new =
-    (number ≡ place) × (length fields ≢ 7) × IsAt g s desk × (new ≡ old)
-TakeStops g day s place fields (stop.Fault f) desk old new =
-    (row : Fields) × (fields ≡ fields_in row) × DoStops g day s place row (stop.Fault f) desk old new
-TakeStops g day s place fields stop.Io desk old new =
-    (row : Fields) × (fields ≡ fields_in row) × DoStops g day s place row stop.Io desk old new
-
 -- ---- lines one after another
 
 -- those of rows of which so many came before
@@ -102,21 +81,26 @@ abbrev pub one_if : Bool → ℕ
 one_if true = 1
 one_if false = 0
 
--- a row was answered and its line written; whether it was refused
+-- a row of seven fields was answered, and its line written; whether the row was refused
 abbrev pub IsRowWritten : {S : Type 0} → Ghosts S → ℤ → State → ℕ → Fields → Bool → DeskState S → Option (List ℕ)
     → Option (List ℕ) → Type 0
 IsRowWritten g day s number row refused desk old new =
     (answer : Answer) × (t : State) × IsRowDone day s row answer t × IsAt g t desk
     × Appends old new (line_of number answer) × (refused ≡ is_refusal answer)
 
--- that, or what stopped it
-abbrev pub EndsLine : {S : Type 0} → Ghosts S → ℤ → State → ℕ → Fields → Result Bool ImportStop → DeskState S
+-- what stopped a row: another number of fields, a fault, or a line that could not be written whole
+abbrev pub TakeStops : {S : Type 0} → Ghosts S → ℤ → State → ℕ → List (List ℕ) → ImportStop → DeskState S
     → Option (List ℕ) → Option (List ℕ) → Type 0
-EndsLine g day s number row ended desk old new =
-    MatchResult ended (λ refused. IsRowWritten g day s number row refused desk old new)
-    (λ why. DoStops g day s number row why desk old new)
+TakeStops g day s place fields stop.Header desk old new = ⊥
+TakeStops g day s place fields (stop.Row number) desk old new =
+    (number ≡ place) × (length fields ≢ 7) × IsAt g s desk × (new ≡ old)
+TakeStops g day s place fields (stop.Fault f) desk old new =
+    (row : Fields) × (fields ≡ fields_in row) × IsRowStopped g day s row f desk × (new ≡ old)
+TakeStops g day s place fields stop.Io desk old new =
+    (row : Fields) × (answer : Answer) × (t : State) × (fields ≡ fields_in row) × IsRowDone day s row answer t
+    × IsAt g t desk × AppendsSome old new (line_of place answer)
 
--- the same of a row of any number of fields
+-- a row of any number of fields was answered and its line written, or the row was stopped
 abbrev pub EndsTaking : {S : Type 0} → Ghosts S → ℤ → State → ℕ → List (List ℕ) → Result Bool ImportStop → DeskState S
     → Option (List ℕ) → Option (List ℕ) → Type 0
 EndsTaking g day s number fields ended desk old new =
@@ -144,13 +128,6 @@ AreRowsDone day s (row ∷ rows) answers t =
     (answer : Answer) × (rest : List Answer) × (m : State) × (answers ≡ answer ∷ rest) × IsRowDone day s row answer m
     × AreRowsDone day m rows rest t
 
--- rows were done, the desk is at the state after them, and their lines were written
-pub record AreImported {S : Type 0} (g : Ghosts S) (day : ℤ) (s : State) (rows : List Fields) (answers : List Answer)
-    (t : State) (desk : DeskState S) (old new : Option (List ℕ)) : Type 0 where
-  pub done : AreRowsDone day s rows answers t
-  pub represents : IsAt g t desk
-  pub reported : Appends old new (lines_from 0 answers)
-
 -- ---- the text
 
 -- a header, and rows at the head of what follows it, where the text is known; and what is left of it
@@ -175,106 +152,81 @@ ArePrefixRows text rows = (rows ≡ []) ⊎ AreSomeRows text rows
 abbrev pub AreRowsBeforeBad : Option (List ℕ) → List Fields → Type 0
 AreRowsBeforeBad text rows = (s : Reading) × (rest : Option (List ℕ)) × AreFirstRows text rows s rest × IsBadNext s rest
 
--- ---- the rows after the header
-
--- rows at the head of what follows a header
-abbrev pub AreRowsBehind : Reading → Option (List ℕ) → List Fields → Type 0
-AreRowsBehind headed behind rows = (s2 : Reading) × (rest : Option (List ℕ)) × AreAtPrefix headed behind rows s2 rest
-
-abbrev pub RowsImport : {S : Type 0} → Ghosts S → ℤ → State → Reading → Option (List ℕ) → ℕ → DeskState S
-    → Option (List ℕ) → Option (List ℕ) → Type 0
-RowsImport g day s headed behind refused desk old new =
-    (rows : List Fields) × (answers : List Answer) × (t : State)
-    × ((s2 : Reading) × (rest : Option (List ℕ)) × AreAtPrefix headed behind rows s2 rest × IsEnded s2 rest)
-    × AreImported g day s rows answers t desk old new × (refused ≡ refused_count answers)
-
-abbrev pub RowsStopAtRow : {S : Type 0} → Ghosts S → ℤ → State → Reading → Option (List ℕ) → ℕ → DeskState S
-    → Option (List ℕ) → Option (List ℕ) → Type 0
-RowsStopAtRow g day s headed behind number desk old new =
-    (rows : List Fields) × (answers : List Answer) × (t : State)
-    × ((s2 : Reading) × (rest : Option (List ℕ)) × AreAtPrefix headed behind rows s2 rest × IsBadNext s2 rest)
-    × AreImported g day s rows answers t desk old new × (number ≡ length rows + 1)
-
-abbrev pub RowsStopAtFault : {S : Type 0} → Ghosts S → ℤ → State → Reading → Option (List ℕ) → Fault → DeskState S
-    → Option (List ℕ) → Option (List ℕ) → Type 0
-RowsStopAtFault g day s headed behind f desk old new =
-    (rows : List Fields) × (answers : List Answer) × (t : State) × AreRowsDone day s rows answers t
-    × Appends old new (lines_from 0 answers)
-    × ((f ≡ fault.Memory) × AreRowsBehind headed behind rows × IsAt g t desk
-    ⊎ ((row : Fields) × AreRowsBehind headed behind (rows ++ row ∷ []) × IsRowStopped g day t row f desk))
-
--- reading or writing failed after some rows; of the line of the last one a part may be written
-abbrev pub RowsStopAtIo : {S : Type 0} → Ghosts S → ℤ → State → Reading → Option (List ℕ) → DeskState S
-    → Option (List ℕ) → Option (List ℕ) → Type 0
-RowsStopAtIo g day s headed behind desk old new =
-    (rows : List Fields) × (answers : List Answer) × (t : State) × AreRowsBehind headed behind rows
-    × AreRowsDone day s rows answers t × IsAt g t desk × AreLinesOut answers old new
-
-abbrev pub RowsStop : {S : Type 0} → Ghosts S → ℤ → State → Reading → Option (List ℕ) → ImportStop → DeskState S
-    → Option (List ℕ) → Option (List ℕ) → Type 0
-RowsStop g day s headed behind stop.Header desk old new = ⊥
-RowsStop g day s headed behind (stop.Row number) desk old new = RowsStopAtRow g day s headed behind number desk old new
-RowsStop g day s headed behind (stop.Fault f) desk old new = RowsStopAtFault g day s headed behind f desk old new
-RowsStop g day s headed behind stop.Io desk old new = RowsStopAtIo g day s headed behind desk old new
-
--- all of them were done, or what stopped them
-abbrev pub EndsRows : {S : Type 0} → Ghosts S → ℤ → State → Reading → Option (List ℕ) → Result ℕ ImportStop
-    → DeskState S → Option (List ℕ) → Option (List ℕ) → Type 0
-EndsRows g day s headed behind ended desk old new =
-    MatchResult ended (λ refused. RowsImport g day s headed behind refused desk old new)
-    (λ why. RowsStop g day s headed behind why desk old new)
-
 -- why an import stops where no row was read in a place
 abbrev pub stop_at : RowStop → ℕ → ImportStop
 stop_at row_stop.NotText number = stop.Row number
 stop_at row_stop.Memory number = stop.Fault fault.Memory
 stop_at row_stop.Io number = stop.Io
 
--- ---- the whole import
+-- ---- what an import comes to
 
--- all rows were done, of which so many were refused
-abbrev pub Imports : {S : Type 0} → Ghosts S → ℤ → State → Option (List ℕ) → ℕ → DeskState S → Option (List ℕ)
-    → Option (List ℕ) → Type 0
-Imports g day s text refused desk old new =
-    (rows : List Fields) × (answers : List Answer) × (t : State) × AreAllRows text rows
-    × AreImported g day s rows answers t desk old new × (refused ≡ refused_count answers)
+-- why an import ended
+pub data ImportEnd : Type 0 where
+  -- no row is left
+  all_rows : ImportEnd
+  -- the first row does not name the columns, or there is none
+  no_header : ImportEnd
+  -- the next row has another number of fields, or is not UTF-8
+  bad_row : ImportEnd
+  -- memory ran out before the next row was read
+  out_of_memory : ImportEnd
+  -- a fault stopped the next row
+  row_stopped : Fields → Fault → ImportEnd
+  -- reading or writing failed
+  io_failed : ImportEnd
 
--- it stopped at a row that is none: those before it were done
-abbrev pub StopsAtRow : {S : Type 0} → Ghosts S → ℤ → State → Option (List ℕ) → ℕ → DeskState S → Option (List ℕ)
-    → Option (List ℕ) → Type 0
-StopsAtRow g day s text number desk old new =
-    (rows : List Fields) × (answers : List Answer) × (t : State) × AreRowsBeforeBad text rows
-    × AreImported g day s rows answers t desk old new × (number ≡ length rows + 1)
+-- the rows that were done, their answers, and why the import ended then
+pub record ImportOutcome : Type 0 where
+  pub rows : List Fields
+  pub answers : List Answer
+  pub why : ImportEnd
 
--- a fault stopped it after some rows: memory ran out to read the next, or that one was stopped
-abbrev pub StopsAtFault : {S : Type 0} → Ghosts S → ℤ → State → Option (List ℕ) → Fault → DeskState S → Option (List ℕ)
-    → Option (List ℕ) → Type 0
-StopsAtFault g day s text f desk old new =
-    (rows : List Fields) × (answers : List Answer) × (t : State) × AreRowsDone day s rows answers t
-    × Appends old new (lines_from 0 answers)
-    × ((f ≡ fault.Memory) × ArePrefixRows text rows × IsAt g t desk
-    ⊎ ((row : Fields) × AreSomeRows text (rows ++ row ∷ []) × IsRowStopped g day t row f desk))
+-- how many rows are refused, or what stopped the import
+abbrev pub result_by : List Fields → List Answer → ImportEnd → Result ℕ ImportStop
+result_by rows answers all_rows = Ok (refused_count answers)
+result_by rows answers no_header = Err stop.Header
+result_by rows answers bad_row = Err (stop.Row (length rows + 1))
+result_by rows answers out_of_memory = Err (stop.Fault fault.Memory)
+result_by rows answers (row_stopped row f) = Err (stop.Fault f)
+result_by rows answers io_failed = Err stop.Io
 
--- reading or writing failed after some rows; of the line of the last one a part may be written
-abbrev pub StopsAtIo : {S : Type 0} → Ghosts S → ℤ → State → Option (List ℕ) → DeskState S → Option (List ℕ)
-    → Option (List ℕ) → Type 0
-StopsAtIo g day s text desk old new =
-    (rows : List Fields) × (answers : List Answer) × (t : State) × ArePrefixRows text rows
-    × AreRowsDone day s rows answers t × IsAt g t desk × AreLinesOut answers old new
+-- what the call returns for an outcome
+abbrev pub import_result : ImportOutcome → Result ℕ ImportStop
+import_result o = result_by o.rows o.answers o.why
 
-abbrev pub Stops : {S : Type 0} → Ghosts S → ℤ → State → Option (List ℕ) → ImportStop → DeskState S → Option (List ℕ)
-    → Option (List ℕ) → Type 0
-Stops g day s text stop.Header desk old new = LacksHeader StartRecord text × IsAt g s desk × (new ≡ old)
-Stops g day s text (stop.Row number) desk old new = StopsAtRow g day s text number desk old new
-Stops g day s text (stop.Fault f) desk old new = StopsAtFault g day s text f desk old new
-Stops g day s text stop.Io desk old new = StopsAtIo g day s text desk old new
+-- the rows are the first of a text, in which an import can end so after them
+abbrev pub FitsText : Option (List ℕ) → List Fields → ImportEnd → Type 0
+FitsText text rows all_rows = AreAllRows text rows
+FitsText text rows no_header = LacksHeader StartRecord text × (rows ≡ [])
+FitsText text rows bad_row = AreRowsBeforeBad text rows
+FitsText text rows out_of_memory = ArePrefixRows text rows
+FitsText text rows (row_stopped row f) = AreSomeRows text (rows ++ row ∷ [])
+FitsText text rows io_failed = ArePrefixRows text rows
 
--- all rows were done, or what stopped it
+-- the lines of all answers are written; if reading or writing failed, perhaps only a part of the last line
+abbrev pub AreReported : List Answer → ImportEnd → Option (List ℕ) → Option (List ℕ) → Type 0
+AreReported answers no_header old new = new ≡ old
+AreReported answers io_failed old new = AreLinesOut answers old new
+AreReported answers _ old new = Appends old new (lines_from 0 answers)
+
+-- from a state the rows of a text came to an outcome, and lead to another state
+pub record ImportCameTo (day : ℤ) (s : State) (text : Option (List ℕ)) (o : ImportOutcome) (u : State)
+    (old new : Option (List ℕ)) : Type 0 where
+  pub fits : FitsText text o.rows o.why
+  pub done : AreRowsDone day s o.rows o.answers u
+  pub reported : AreReported o.answers o.why old new
+
+-- the desk is at the state after the rows; or, if a fault stopped the next row, as the fault left the desk
+abbrev pub ImportLeads : {S : Type 0} → Ghosts S → ℤ → State → ImportEnd → DeskState S → Type 0
+ImportLeads g day u (row_stopped row f) desk = IsRowStopped g day u row f desk
+ImportLeads g day u _ desk = IsAt g u desk
+
+-- an import at a desk came to an outcome, and returned the result of that outcome
 abbrev pub EndsImport : {S : Type 0} → Ghosts S → ℤ → State → Option (List ℕ) → Result ℕ ImportStop → DeskState S
     → Option (List ℕ) → Option (List ℕ) → Type 0
 EndsImport g day s text ended desk old new =
-    MatchResult ended (λ refused. Imports g day s text refused desk old new)
-    (λ why. Stops g day s text why desk old new)
+    (o : ImportOutcome) × (u : State) × (ended ≡ import_result o) × ImportCameTo day s text o u old new
+    × ImportLeads g day u o.why desk
 
 -- the records of a text were added at a desk; a byte order mark at its start is passed over, and a poisoned desk stays
 -- as it was

@@ -1,12 +1,12 @@
 //! Records that are added by the rows of a text of CSV.
-ghost use Rattle.std.specs.Prelude.{◌≡◌, ◌+◌, ◌-◌, ◌^◌, ◌<◌};
+ghost use Rattle.std.specs.Prelude.{◌≡◌, ◌+◌, ◌-◌, ◌^◌, ◌<◌, ℕ, List, Option};
 ghost use Rattle.csv.specs.Reading.{reader_state, source_of};
 ghost use Rattle.csv.specs.declared.parser.State.TheVariants.{StartRecord};
 ghost use Rattle.csv.specs.Records.{fields_of};
 ghost use Rattle.office_csv.specs.ImportRows.{named};
-ghost use Rattle.office_csv.specs.ImportText.{IsPlain};
+ghost use Rattle.office_csv.specs.ImportText.{HeadsText, IsPlain};
 ghost use Rattle.office_wire.specs.Calling.{CalledAt};
-ghost use Rattle.office_wire.specs.Importing.{EndsImport, EndsLine, EndsRow, EndsRows, EndsTaking, ImportsText, one_if, stop_at};
+ghost use Rattle.office_wire.specs.Importing.{EndsImport, EndsRow, EndsTaking, ImportsText, one_if, stop_at};
 
 use crate::import_lines::write_line;
 use csv::{Reader, StringRecord};
@@ -53,28 +53,6 @@ fn answer_row<S: Alter>(
     }
 }
 
-/// Does what a row of seven fields asks for, and writes its line. Whether it was refused.
-fn do_row<S: Alter, W: Write>(
-    alloc: Global,
-    desk: &mut Desk<S>,
-    day: Day,
-    number: u64,
-    row: &ImportRow<'_>,
-    out: &mut W,
-) -> Result<bool, ImportStop>
-    ensures { CalledAt S.Store desk.old desk.new
-        (λ s. EndsLine S.Store day s number (named row.now) result desk.new (W.contents out.old)
-        (W.contents out.new)) }
-{
-    match answer_row(alloc, desk, day, row) {
-        Ok(answer) => match write_line(number, answer, out) {
-            Ok(()) => Ok(answer.is_refusal()),
-            Err(Io) => Err(ImportStop::Io),
-        },
-        Err(fault) => Err(ImportStop::Fault(fault)),
-    }
-}
-
 /// Does what a row asks for, and writes its line. Whether it was refused.
 fn take_row<S: Alter, W: Write>(
     alloc: Global,
@@ -88,9 +66,15 @@ fn take_row<S: Alter, W: Write>(
         (λ s. EndsTaking S.Store day s number (fields_of row.now) result desk.new
         (W.contents out.old) (W.contents out.new)) }
 {
-    match row_in(row) {
-        Some(it) => do_row(alloc, desk, day, number, &it, out),
-        None => Err(ImportStop::Row(number)),
+    let Some(it) = row_in(row) else {
+        return Err(ImportStop::Row(number));
+    };
+    match answer_row(alloc, desk, day, &it) {
+        Ok(answer) => match write_line(number, answer, out) {
+            Ok(()) => Ok(answer.is_refusal()),
+            Err(Io) => Err(ImportStop::Io),
+        },
+        Err(fault) => Err(ImportStop::Fault(fault)),
     }
 }
 
@@ -113,8 +97,8 @@ fn count_refused(refused: u64, is_refused: bool) -> u64
     if is_refused { refused + 1 } else { refused }
 }
 
-/// Does what all rows after the header ask for, each before the next is read. How many were
-/// refused.
+/// Does what all rows after the header of a text ask for, each before the next is read. How many
+/// were refused.
 fn import_rows<S: Alter, R: Read, W: Write>(
     alloc: Global,
     desk: &mut Desk<S>,
@@ -123,9 +107,11 @@ fn import_rows<S: Alter, R: Read, W: Write>(
     out: &mut W,
 ) -> Result<u64, ImportStop>
     requires { IsPlain rdr.old }
-    ensures { CalledAt S.Store desk.old desk.new
-        (λ s. EndsRows S.Store day s (reader_state rdr.old) (source_of R.remaining rdr.old) result
-        desk.new (W.contents out.old) (W.contents out.new)) }
+    ensures { (text : Option (List ℕ))
+        → HeadsText StartRecord text (reader_state rdr.old) (source_of R.remaining rdr.old)
+        → CalledAt S.Store desk.old desk.new
+        (λ s. EndsImport S.Store day s text result desk.new (W.contents out.old)
+        (W.contents out.new)) }
 {
     let mut row = StringRecord::new(alloc);
     let mut refused = 0;

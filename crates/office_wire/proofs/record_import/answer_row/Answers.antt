@@ -3,7 +3,7 @@ use Rattle.office_csv.specs.ImportRows.{named}
 use Rattle.office_base.specs.declared.refusal.Refusal.{Refusal}
 use Rattle.office_rules.specs.declared.answer.Answer.TheVariants.{Refused}
 use Rattle.office_wire.proofs.Calls.{not_called}
-use Rattle.office_wire.proofs.Imported.{bad_row, row_ended}
+use Rattle.office_wire.proofs.Imported.{row_ended, row_refused}
 use Rattle.office_wire.proofs.record_import.answer_row.Goals as goal
 
 pub returns-in-Ok : goal.returns-in-Ok
@@ -19,4 +19,4 @@ returns-in-Ok g c =
 pub returns-in-Err-Refused : goal.returns-in-Err-Refused
 returns-in-Err-Refused g c =
     not_called g.S.Store _ _
-    (λ s represents. (s, (rw (bad_row _ _ (rw c.in-Err-Refused.field-0-is at c.in-Err-Refused.ensures)) (ap (λ (why : Refusal). Refused why) c.in-Err-Refused.refusal-is, refl)), represents))
+    (λ s represents. (s, (rw (row_refused _ _ (rw c.in-Err-Refused.field-0-is at c.in-Err-Refused.ensures)) (ap (λ (why : Refusal). Refused why) c.in-Err-Refused.refusal-is, refl)), represents))

@@ -7,15 +7,16 @@ pub loop-before-init : goal.loop-before-init
 loop-before-init g c = (c.requires, prefix_start _ _ _ _ _ _)
 
 pub returns-in-Ok-false : goal.returns-in-Ok-false
-returns-in-Ok-false g c = prefix_end _ _ _ _ _ _ _ _ _ _ _ _ c.loop-before.invariant.1 _ _ _ (rw c.in-Ok-false.field-0-test at c.in-Ok-false.ensures.reads)
+returns-in-Ok-false g c = λ text heads.
+    prefix_end _ _ _ _ _ _ _ _ _ _ _ _ c.loop-before.invariant.1 text heads _ _ _ (rw c.in-Ok-false.field-0-test at c.in-Ok-false.ensures.reads)
 
 pub returns-in-Err : goal.returns-in-Err
-returns-in-Err g c =
-    rw c.stop_at.ensures (prefix_unread _ _ _ _ _ _ _ _ _ _ _ _ c.loop-before.invariant.1 _ (λ e. c.in-Err.ensures.bad (ap (λ (why : RowStop). Err why) e)))
+returns-in-Err g c = λ text heads.
+    rw c.stop_at.ensures (prefix_unread _ _ _ _ _ _ _ _ _ _ _ _ c.loop-before.invariant.1 text heads _ (λ e. c.in-Err.ensures.bad (ap (λ (why : RowStop). Err why) e)))
 
 pub returns-in-Err-take_row : goal.returns-in-Err-take_row
-returns-in-Err-take_row g c =
-    prefix_stopped _ _ _ _ _ _ _ _ _ _ _ _ _ _ _ _ _ (rw c.in-Ok-true.field-0-test at c.in-Ok-true.ensures.reads) c.in-Ok-true.ensures.text _ c.loop-before.invariant.1 c.in-Err-take_row.ensures
+returns-in-Err-take_row g c = λ text heads.
+    prefix_stopped _ _ _ _ _ _ _ _ _ _ _ _ _ _ _ _ _ (rw c.in-Ok-true.field-0-test at c.in-Ok-true.ensures.reads) c.in-Ok-true.ensures.text text heads _ c.loop-before.invariant.1 c.in-Err-take_row.ensures
 
 pub loop-before-preserved : goal.loop-before-preserved
 loop-before-preserved g c = (
@@ -25,4 +26,4 @@ loop-before-preserved g c = (
 )
 
 pub returns : goal.returns
-returns g c = prefix_io _ _ _ _ _ _ _ _ _ _ _ _ c.loop-before.invariant.1
+returns g c = λ text heads. prefix_io _ _ _ _ _ _ _ _ _ _ _ _ c.loop-before.invariant.1 text heads

@@ -1,14 +1,19 @@
-use Rattle.std.proofs.Common.{refl}
-use Rattle.csv.specs.Records.{fields_of}
+use Rattle.std.proofs.Common.{refl, subst, sym}
+use Rattle.std.specs.Option.{IsNone}
 use Rattle.office_csv.specs.ImportRows.{named}
 use Rattle.office_wire.proofs.Calls.{called, not_called}
-use Rattle.office_wire.proofs.Imported.{taken}
 use Rattle.office_wire.proofs.record_import.take_row.Goals as goal
 
-pub returns-in-Some : goal.returns-in-Some
-returns-in-Some g c =
-    called g.S.Store _ _ _ _ c.do_row.ensures
-    (λ s it. taken g.S.Store c.args.day s c.args.number (fields_of c.args.row.now) (named c.in-Some.it) c.do_row.result _ _ _ c.in-Some.ensures.some it)
+pub returns-in-Ok-write_line : goal.returns-in-Ok-write_line
+returns-in-Ok-write_line g c =
+    called g.S.Store _ _ _ _ c.in-Ok.ensures (λ s it. (named c.in-Some.it, c.in-Some.ensures.some, (c.in-Ok.answer, it.0, it.1, it.2, c.in-Ok-write_line.ensures.ok, c.is_refusal.ensures)))
 
-pub returns-in-None : goal.returns-in-None
-returns-in-None g c = not_called g.S.Store _ _ (λ s at. (refl, c.in-None.ensures.none refl, at, refl))
+pub returns-in-Err-write_line : goal.returns-in-Err-write_line
+returns-in-Err-write_line g c =
+    called g.S.Store _ _ _ _ c.in-Ok.ensures (λ s it. (named c.in-Some.it, c.in-Ok.answer, it.0, c.in-Some.ensures.some, it.1, it.2, c.in-Err-write_line.ensures.err))
+
+pub returns-in-Err : goal.returns-in-Err
+returns-in-Err g c = called g.S.Store _ _ _ _ c.in-Err.ensures (λ s it. (named c.in-Some.it, c.in-Some.ensures.some, it, refl))
+
+pub returns-in_default : goal.returns-in_default
+returns-in_default g c = not_called g.S.Store _ _ (λ s at. (refl, c.row_in.ensures.none (subst (λ o. IsNone o) (sym c.in_default.is) refl), at, refl))
