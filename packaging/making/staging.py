@@ -52,7 +52,7 @@ def is_left_out(name: pathlib.Path) -> bool:
 def files_below(source: pathlib.Path) -> list[pathlib.Path]:
     if source.is_file():
         return [source]
-    files = [it for it in source.rglob("*") if it.is_file() or it.is_symlink()]
+    files = [it for it in source.rglob("*") if it.is_file()]
     return sorted(it for it in files if not is_left_out(it.relative_to(source)))
 
 
@@ -67,18 +67,8 @@ def put_packed(text: str, to: pathlib.Path) -> None:
     put(gzip.compress(text.encode(), 9, mtime=0), to)
 
 
-def put_link(source: pathlib.Path, to: pathlib.Path) -> None:
-    """A link of the list, which names a file beside it or nothing."""
-    to.parent.mkdir(parents=True, exist_ok=True)
-    to.unlink(missing_ok=True)
-    to.symlink_to(os.readlink(source))
-
-
 def put_file(source: pathlib.Path, to: pathlib.Path) -> None:
     """A file of the list, with the places of the package."""
-    if source.is_symlink():
-        put_link(source, to)
-        return
     data = source.read_bytes()
     if source.name.endswith(MACHINE):
         text = data.decode()

@@ -1,7 +1,6 @@
 """Units of systemd as a machine has them: each with its drop-ins, from the folders of the repository that have some."""
 from __future__ import annotations
 
-import os
 import pathlib
 import shutil
 from collections.abc import Iterator
@@ -9,6 +8,8 @@ from collections.abc import Iterator
 TOP = pathlib.Path(__file__).resolve().parents[2]
 FOLDERS = tuple(TOP / folder for folder in ("service", "service/gate", "service/vault", "service/replicas"))
 SUFFIXES = (".service", ".timer", ".socket")
+LAID_TWICE = {"office@.service.d": "office-.service.d"}
+"""folders of drop-ins that a machine has too, each with the one whose files are in it"""
 
 
 def unit_files(*folders: pathlib.Path) -> list[pathlib.Path]:
@@ -17,25 +18,26 @@ def unit_files(*folders: pathlib.Path) -> list[pathlib.Path]:
 
 
 def drop_ins(*folders: pathlib.Path) -> list[pathlib.Path]:
-    """Lists the drop-ins of these folders, or of all; a link is one too."""
+    """Lists the drop-ins of these folders, or of all."""
     return [file for folder in folders or FOLDERS for file in sorted(folder.glob("*.service.d/*.conf"))]
 
 
 def lay_out(to: pathlib.Path, *folders: pathlib.Path) -> None:
-    """Copies the units of these folders, or of all, into one, with their drop-ins and links. It adds to what is there."""
+    """Copies the units of these folders, or of all, into one, with their drop-ins. It adds to what is there."""
     to.mkdir(parents=True, exist_ok=True)
     for file in unit_files(*folders):
         shutil.copy(file, to)
     for file in drop_ins(*folders):
-        place = to / file.parent.name / file.name
-        place.parent.mkdir(exist_ok=True)
-        place.unlink(missing_ok=True)
-        shutil.copy(file, place, follow_symlinks=False)
+        for folder in (file.parent.name, *(twice for twice, of in LAID_TWICE.items() if of == file.parent.name)):
+            (to / folder).mkdir(exist_ok=True)
+            shutil.copy(file, to / folder)
 
 
 def places_of(name: str) -> Iterator[str]:
     """Returns the folders of drop-ins that systemd reads for a unit, the nearest first."""
     yield f"{name}.d"
+    if f"{name}.d" in LAID_TWICE:
+        yield LAID_TWICE[f"{name}.d"]
     stem, _, suffix = name.rpartition(".")
     for at in range(len(stem) - 1, 0, -1):
         if stem[at] == "-":
@@ -49,5 +51,5 @@ def text_of(unit: pathlib.Path) -> str:
         for file in drop_ins():
             if file.parent.name == place:
                 by_name.setdefault(file.name, file)
-    own = [file for _, file in sorted(by_name.items()) if os.path.realpath(file) != os.devnull]
+    own = [file for _, file in sorted(by_name.items())]
     return "\n".join(file.read_text(encoding="utf-8") for file in (unit, *own))

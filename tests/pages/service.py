@@ -82,6 +82,7 @@ ROWS = [
     Row("mkdir -p /etc/office"),
     Row("cp service/city.conf"),
     Row("cp -r service/office*.service.d"),
+    Row("install -D -m 644 service/office-.service.d"),
     Row("cp service/office@.service"),
     Row("cp -r service/office_serve"),
     Row("install -m 755 service/office-serve"),
