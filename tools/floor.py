@@ -2,7 +2,9 @@
 import sys
 from pathlib import Path
 
-PLACES = (Path(__file__).resolve().parent.parent / "service", Path("/usr/local/lib/office"), Path("/usr/lib/office"))
+TOOLS = Path(__file__).resolve().parent
+PLACES = (TOOLS.parent / "service", Path("/usr/local/lib/office"), TOOLS / "../../../../lib/office")
+"""of the repository, of a machine without the package, and of the package, whose tools are in usr/share/doc/office"""
 
 
 def find() -> None:
