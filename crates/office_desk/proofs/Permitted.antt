@@ -70,8 +70,8 @@ module _ (permits : Office → Act → Bool) where
     begins_here may formed =
         let more = permitted_acts permits (step (after s (take i acts)) a).1 (drop (i + 1) acts) in
         let whole : permitted_acts permits s acts ≡ take i acts ++ a ∷ more
-            = ap (permitted_acts permits s) parts ∙ permitted_past s (take i acts) (a ∷ drop (i + 1) acts) so_far
-            ∙ ap (λ b. take i acts ++ cond b (a ∷ more) []) may in
+        = ap (permitted_acts permits s) parts ∙ permitted_past s (take i acts) (a ∷ drop (i + 1) acts) so_far
+        ∙ ap (λ b. take i acts ++ cond b (a ∷ more) []) may in
         let low : i ≤ length acts = omega (arith, within) in
         let long : length (take i acts) ≡ i = length-take-le i acts low in
         let one_more : length (take i acts ++ a ∷ []) ≡ i + 1 = length_push (take i acts) a ∙ ap (λ n. n + 1) long in

@@ -95,8 +95,12 @@ impl<S: Alter> Desk<S> {
 
     /// Performs one act after another, at a desk that is open, up to the first that the guard does
     /// not permit.
-    fn perform_open<G: Guard>(&mut self, guard: &G, acts: &[Act], answers: &mut Vec<Answer>)
-        -> Result<bool, Fault>
+    fn perform_open<G: Guard>(
+        &mut self,
+        guard: &G,
+        acts: &[Act],
+        answers: &mut Vec<Answer>,
+    ) -> Result<bool, Fault>
         requires open { self.old.is_poisoned ≡ false }
         requires formed { AreWellFormed acts.now }
         ensures answered { (s : State) → s.office ≡ self.old.office

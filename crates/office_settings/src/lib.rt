@@ -22,4 +22,3 @@ mod wrong;
 pub use statement::{IsLine, RoleLine, SignsLine, Statement};
 pub use words::words_of;
 pub use wrong::Wrong;
-

@@ -11,7 +11,9 @@ ghost use Rattle.office_records.specs.Tree.{event_day, has_aggregation, has_reco
 use crate::Tree;
 use crate::ref_index::number_of;
 use office_days::Day;
-use office_records::{AggNo, Aggregation, Class, Code, Event, Record, RecordNo, Schedule, Status, Text};
+use office_records::{
+    AggNo, Aggregation, Class, Code, Event, Record, RecordNo, Schedule, Status, Text,
+};
 
 /// The row of that number, if it is there. Rows are numbered 1, 2, ..
 pub(crate) fn numbered<T>(rows: &[T], number: u32) -> Option<&T>
