@@ -81,7 +81,7 @@ abbrev pub denial_of : Settings → Office → ℤ → SignIn → Act → Option
 denial_of settings s today name act =
     denial_by settings s today (signs settings name) act (grants_of settings name)
 
--- ---- what is no act
+-- ---- powers that are no acts
 
 -- To carry out the open run to its end is permitted to a name, in an office, if:
 pub record PermitsResumption (settings : Settings) (s : Office) (name : SignIn) : Type 0 where

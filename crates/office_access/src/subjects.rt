@@ -12,7 +12,7 @@ use office_records::{AggNo, Classified, Code, RecordNo, Target};
 use office_rules::Act;
 use office_tree::Tree;
 
-/// The class of an aggregation; `None` where it is not there.
+/// The class of an aggregation; `None` if the aggregation is not there.
 fn aggregation_class(tree: &Tree, aggregation: AggNo) -> Option<&Code>
     ensures { option_copied result ≡ aggregation_class_of tree.now aggregation }
 {
@@ -23,7 +23,7 @@ fn aggregation_class(tree: &Tree, aggregation: AggNo) -> Option<&Code>
     }
 }
 
-/// The class of a record; `None` where it is not there.
+/// The class of a record; `None` if the record is not there.
 fn record_class(tree: &Tree, record_no: RecordNo) -> Option<&Code>
     ensures { option_copied result ≡ class_of tree.now record_no }
 {
@@ -79,7 +79,7 @@ fn class_above(tree: &Tree, what: Classified) -> Option<&Code>
 }
 
 impl Grants {
-    /// Whether it may do acts of that kind in the own class, where one is named.
+    /// Whether it may do acts of that kind in the own class, if one is named.
     fn may_in_own(&self, power: Power, own: &Option<Code>) -> bool
         ensures { result ≡ list_all (may_in self.now power) (and_own own.now) }
     {

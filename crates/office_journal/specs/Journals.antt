@@ -46,19 +46,19 @@ abbrev pub is_whole : List ℕ → Bool
 is_whole [] = false
 is_whole (b ∷ rest) = (b == 123) && closes open_once rest
 
--- the head after a line, where this follows its number, if anything does
+-- the head after a line, by what follows its number, if anything does
 abbrev pub numbered : Head → List ℕ → Option (List ℕ) → Result Head Wrong
 numbered head line None = Err OtherNumber
 numbered head line (Some rest) = Ok (head_after head line)
 
--- the head after a line, where this follows the digest of the line before, if anything does. A number has 64 bits
+-- the head after a line, by what follows the digest of the line before, if anything does. A number has 64 bits
 abbrev pub linked : Head → List ℕ → Option (List ℕ) → Result Head Wrong
 linked head line None = Err OtherBefore
 linked head line (Some rest) =
     if head.line == 2 ^ 64 - 1 then Err OtherNumber
     else numbered head line (rest_after (decimal (head.line + 1) ++ codes ",") rest)
 
--- the head after a line, where this follows its first quote
+-- the head after a line, by what follows its first quote
 abbrev pub opened : Head → List ℕ → List ℕ → Result Head Wrong
 opened head line rest = linked head line (rest_after (encode_lower head.digest ++ codes "\",\"line\":") rest)
 

@@ -3,7 +3,7 @@ use Rattle.std.specs.Prelude.{ℕ, List, codes}
 use Rattle.office_settings.specs.declared.wrong.Wrong.{Wrong}
 use Rattle.office_settings.specs.declared.wrong.Wrong.TheVariants.{Beginning, RoleLine, Role, Condition, NothingFollows, SentActs, Act, Thing, Class, NameLine, Name, Rule, Number, Limit, Keep, Journal, Site, Zone}
 
--- what a reader of the settings is told
+-- the text of each reason
 abbrev pub reason : Wrong → List ℕ
 reason Beginning = codes "no line begins with this word"
 reason RoleLine = codes "write: role ROLE may ACT.. [in CLASS..], or role ROLE reads THING.. [in CLASS..] [if sent]"

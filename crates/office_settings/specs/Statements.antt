@@ -11,7 +11,7 @@ use Rattle.office_settings.specs.Numbers.{only_number}
 
 -- a statement
 pub data Line : Type 0 where
-  -- the role may do these acts, for these classes, or without a limit where there are none
+  -- the role may do these acts, for these classes, or without a limit if there are none
   may : List ℕ → List (List ℕ) → List (List ℕ) → Line
   -- the role reads these things, for these classes, and only what was sent, or not only
   reads : List ℕ → List (List ℕ) → List (List ℕ) → Bool → Line
