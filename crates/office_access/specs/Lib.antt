@@ -8,3 +8,4 @@ pub mod Settings
 pub mod Signing
 pub mod Subjects
 pub mod TwoPeople
+pub mod Words

@@ -51,6 +51,14 @@ right_denials s today signs grants act =
     ∷ (denial.Class, not (list_all (may_in grants (power_for act)) (classes_of s.tree act)))
     ∷ []
 
+-- why an act is denied in whatever office, in the order of the questions
+abbrev pub lasting_denials : ℤ → List ℕ → Grants → Act → List (Denial × Bool)
+lasting_denials today signs grants act =
+    (denial.Right, not (may_at_all grants (power_for act)))
+    ∷ (denial.By, not (is_signed signs (signature_of act)))
+    ∷ (denial.Future, not (is_timely today grants (day_of act)))
+    ∷ []
+
 -- the rules, in the order of the questions
 abbrev pub all_rules : List Rule
 all_rules =
@@ -80,6 +88,15 @@ denial_by settings s today signs act (Some grants) =
 abbrev pub denial_of : Settings → Office → ℤ → SignIn → Act → Option Denial
 denial_of settings s today name act =
     denial_by settings s today (signs settings name) act (grants_of settings name)
+
+abbrev pub lasting_denial_by : ℤ → List ℕ → Act → Option Grants → Option Denial
+lasting_denial_by today signs act None = Some denial.Name
+lasting_denial_by today signs act (Some grants) = first_denial (lasting_denials today signs grants act)
+
+-- why the act is denied to the name in whatever office, if it is
+abbrev pub lasting_denial_of : Settings → ℤ → SignIn → Act → Option Denial
+lasting_denial_of settings today name act =
+    lasting_denial_by today (signs settings name) act (grants_of settings name)
 
 -- ---- powers that are no acts
 

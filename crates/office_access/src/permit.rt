@@ -1,7 +1,7 @@
 //! Whether an act is permitted to a name.
 ghost use Rattle.std.specs.Prelude.{◌≡◌, if◌then◌else◌};
 ghost use Rattle.std.specs.Option.{option_copied};
-ghost use Rattle.office_access.specs.Permits.{denial_of, file_denial_of, first_denial, is_timely, reading_denial_of, resumption_denial_of, right_denials};
+ghost use Rattle.office_access.specs.Permits.{denial_of, file_denial_of, first_denial, is_timely, lasting_denial_of, lasting_denials, reading_denial_of, resumption_denial_of, right_denials};
 
 use crate::act_kind::{day_of, is_signed, kind_of};
 use crate::eyes::is_opener;
@@ -21,13 +21,12 @@ impl Grants {
         }
     }
 
-    /// Finds why the rights do not allow the act, if they do not: of several reasons the first.
-    fn deny<V: OfficeView>(&self, office: &V, today: Day, signs: &Text, act: &Act) -> Option<Denial>
-        ensures { result
-            ≡ first_denial (right_denials (V.office office.now) today signs.now self.now act.now) }
+    /// Finds why the rights allow the act in no office, if they do not: of several reasons the
+    /// first.
+    fn deny_everywhere(&self, today: Day, signs: &Text, act: &Act) -> Option<Denial>
+        ensures { result ≡ first_denial (lasting_denials today signs.now self.now act.now) }
     {
-        let power = Power::Act(kind_of(act));
-        if !self.may_at_all(power) {
+        if !self.may_at_all(Power::Act(kind_of(act))) {
             return Some(Denial::Right);
         }
         if !is_signed(act, signs) {
@@ -36,7 +35,18 @@ impl Grants {
         if !self.is_timely(today, day_of(act)) {
             return Some(Denial::Future);
         }
-        if !self.may_in_all(office.tree(), power, act) {
+        None
+    }
+
+    /// Finds why the rights do not allow the act, if they do not: of several reasons the first.
+    fn deny<V: OfficeView>(&self, office: &V, today: Day, signs: &Text, act: &Act) -> Option<Denial>
+        ensures { result
+            ≡ first_denial (right_denials (V.office office.now) today signs.now self.now act.now) }
+    {
+        if let Some(denial) = self.deny_everywhere(today, signs, act) {
+            return Some(denial);
+        }
+        if !self.may_in_all(office.tree(), Power::Act(kind_of(act)), act) {
             return Some(Denial::Class);
         }
         None
@@ -63,6 +73,18 @@ impl Policy {
         match grants.deny(office, today, signs, act) {
             Some(denial) => Some(denial),
             None => self.rules().deny_by_rule(office, signs, grants, act),
+        }
+    }
+
+    /// Finds why the act is denied to the name on that day in whatever office, if it is: of several
+    /// reasons the first. Takes no memory. What [`Policy::permit`] asks of the office, the classes
+    /// and the rules of four eyes, is not asked here.
+    pub fn permit_anywhere(&self, today: Day, name: &SignIn, act: &Act) -> Option<Denial>
+        ensures { result ≡ lasting_denial_of self.now today name.now act.now }
+    {
+        match self.grants(name) {
+            Some(grants) => grants.deny_everywhere(today, self.signature(name), act),
+            None => Some(Denial::Name),
         }
     }
 

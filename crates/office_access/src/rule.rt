@@ -1,4 +1,6 @@
 //! The rules of four eyes.
+ghost use Rattle.std.specs.Prelude.{◌≡◌};
+ghost use Rattle.office_access.specs.Words.{rule_word};
 
 /// The rules of four eyes that the office itself can decide, each of them on or off.
 #[derive(Clone, Copy)]
@@ -25,4 +27,19 @@ pub enum Rule {
     ChangerDoesNotOpen,
     SenderDoesNotReceive,
     ReceiverDoesNotOpen,
+}
+
+impl Rule {
+    /// The name of the rule in the settings.
+    pub fn text(self) -> &'static str
+        ensures { result.now ≡ rule_word self }
+    {
+        match self {
+            Rule::OpenerDoesNotCarryOut => "opener-does-not-carry-out",
+            Rule::ConfirmerDoesNotOpen => "confirmer-does-not-open",
+            Rule::ChangerDoesNotOpen => "changer-does-not-open",
+            Rule::SenderDoesNotReceive => "sender-does-not-receive",
+            Rule::ReceiverDoesNotOpen => "receiver-does-not-open",
+        }
+    }
 }

@@ -5,6 +5,7 @@ pub mod MessageLemmas
 pub mod NumberLemmas
 pub mod OneRequest
 pub mod PostedActs
+pub mod ProxyLemmas
 pub mod SegmentLemmas
 pub mod Utf8Lemmas
 pub mod RouteLemmas

@@ -25,6 +25,7 @@ start : (s : Status) (k : MediaType) (rest : List ℕ) → head_start s k ++ res
 unfolding status_words digits
 start statuses.Ok k rest = refl
 start statuses.BadRequest k rest = refl
+start statuses.Forbidden k rest = refl
 start statuses.NotFound k rest = refl
 start statuses.MethodNotAllowed k rest = refl
 start statuses.Conflict k rest = refl
@@ -69,6 +70,7 @@ three_digits : (s : Status) → (length (decimal (status_number s)) ≡ 3) × Al
 unfolding digits
 three_digits statuses.Ok = (refl, AllPass-from_list_all is_ascii_digit (decimal (status_number statuses.Ok)) refl)
 three_digits statuses.BadRequest = (refl, AllPass-from_list_all is_ascii_digit (decimal (status_number statuses.BadRequest)) refl)
+three_digits statuses.Forbidden = (refl, AllPass-from_list_all is_ascii_digit (decimal (status_number statuses.Forbidden)) refl)
 three_digits statuses.NotFound = (refl, AllPass-from_list_all is_ascii_digit (decimal (status_number statuses.NotFound)) refl)
 three_digits statuses.MethodNotAllowed = (refl, AllPass-from_list_all is_ascii_digit (decimal (status_number statuses.MethodNotAllowed)) refl)
 three_digits statuses.Conflict = (refl, AllPass-from_list_all is_ascii_digit (decimal (status_number statuses.Conflict)) refl)
@@ -80,6 +82,7 @@ three_digits statuses.ServiceUnavailable = (refl, AllPass-from_list_all is_ascii
 phrase_bytes : (s : Status) → AllPass is_value_byte (reason_phrase s)
 phrase_bytes statuses.Ok = AllPass-from_list_all is_value_byte (reason_phrase statuses.Ok) refl
 phrase_bytes statuses.BadRequest = AllPass-from_list_all is_value_byte (reason_phrase statuses.BadRequest) refl
+phrase_bytes statuses.Forbidden = AllPass-from_list_all is_value_byte (reason_phrase statuses.Forbidden) refl
 phrase_bytes statuses.NotFound = AllPass-from_list_all is_value_byte (reason_phrase statuses.NotFound) refl
 phrase_bytes statuses.MethodNotAllowed = AllPass-from_list_all is_value_byte (reason_phrase statuses.MethodNotAllowed) refl
 phrase_bytes statuses.Conflict = AllPass-from_list_all is_value_byte (reason_phrase statuses.Conflict) refl

@@ -3,6 +3,7 @@ pub mod Fields
 pub mod Messages
 pub mod Numbers
 pub mod Paths
+pub mod Proxies
 pub mod Receiving
 pub mod Replies
 pub mod RequestPlans

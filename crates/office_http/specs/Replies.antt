@@ -20,6 +20,7 @@ line_end = 13 ∷ 10 ∷ []
 abbrev pub status_number : Status → ℕ
 status_number statuses.Ok = 200
 status_number statuses.BadRequest = 400
+status_number statuses.Forbidden = 403
 status_number statuses.NotFound = 404
 status_number statuses.MethodNotAllowed = 405
 status_number statuses.Conflict = 409
@@ -32,6 +33,7 @@ status_number statuses.ServiceUnavailable = 503
 abbrev pub reason_phrase : Status → List ℕ
 reason_phrase statuses.Ok = codes "OK"
 reason_phrase statuses.BadRequest = codes "Bad Request"
+reason_phrase statuses.Forbidden = codes "Forbidden"
 reason_phrase statuses.NotFound = codes "Not Found"
 reason_phrase statuses.MethodNotAllowed = codes "Method Not Allowed"
 reason_phrase statuses.Conflict = codes "Conflict"

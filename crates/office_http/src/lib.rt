@@ -11,6 +11,7 @@
 //!
 //! [`receive`] reads all of a request from a stream, within its limits: what it asks for is a
 //! [`RequestKind`], and the bytes of its acts are an [`ActsBody`], of which no act is looked at yet.
+//! [`receive_proxied`] reads what a proxy states about it as well, as [`ProxyLines`].
 //! [`DeadlineStream`] is a side of a connection that has [`LONGEST`] seconds for all that is read of
 //! it, or written to it.
 #![tactic(auto)]
@@ -25,6 +26,8 @@ mod method;
 mod numbers;
 mod path_request;
 mod paths;
+mod proxied_request;
+mod proxy_lines;
 mod rejection;
 mod reply;
 mod reply_text;
@@ -40,6 +43,8 @@ pub use fixed::{check_reply, error_reply};
 pub use head::{Head, LONGEST_HEAD, MOST_FIELDS, law_of_requests, read_head};
 pub use path_request::PathRequest;
 pub use paths::Routes;
+pub use proxied_request::{Proxied, ProxiedRequest, receive_proxied};
+pub use proxy_lines::{FieldValue, ProxyLines};
 pub use rejection::Rejection;
 pub use reply::{Allow, Body, MediaType, Reply};
 pub use reply_text::{law_of_replies, write_reply};

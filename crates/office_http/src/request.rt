@@ -106,7 +106,7 @@ fn receive_planned<R: Read>(
 }
 
 /// Reads the rest of a request whose head is in the buffer.
-fn receive_rest<R: Read>(
+pub(crate) fn receive_rest<R: Read>(
     routes: &Routes,
     reader: &mut R,
     buf: Vec<u8>,

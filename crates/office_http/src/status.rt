@@ -12,6 +12,8 @@ pub enum Status {
     Ok,
     /// The request is not of its form.
     BadRequest,
+    /// The name that signed in may not do that, or no proxy states a name.
+    Forbidden,
     /// The path, or what it names, is not there.
     NotFound,
     /// The path takes another method.
@@ -52,6 +54,7 @@ impl Status {
         match self {
             Status::Ok => StatusCode::OK,
             Status::BadRequest => StatusCode::BAD_REQUEST,
+            Status::Forbidden => StatusCode::FORBIDDEN,
             Status::NotFound => StatusCode::NOT_FOUND,
             Status::MethodNotAllowed => StatusCode::METHOD_NOT_ALLOWED,
             Status::Conflict => StatusCode::CONFLICT,

@@ -17,7 +17,7 @@ use Rattle.office_json.specs.Answers.{answer_data}
 use Rattle.office_json.specs.DueJson.{due_row_data}
 use Rattle.office_json.specs.OverdueJson.{overdue_row_data}
 use Rattle.office_json.specs.RecordJson.{confirmed_data, day_data, ended_data, or_null, record_data}
-use Rattle.office_json.specs.Replies.{stopped_data}
+use Rattle.office_json.specs.Replies.{denial_data, denied_data, stopped_data}
 
 -- where what is reported of each thing has none, what is reported of one or of none has none
 or_null_has_none : {A : Type 0} (reported : A → Data) → ((x : A) → has_float (reported x) ≡ false) → (o : Option A) → has_float (or_null reported o) ≡ false
@@ -78,3 +78,11 @@ answers_have_none values answers reported = rw (view-Array values, reported) (ar
 
 pub stopped_has_none : (answers : List Answer) (n : ℕ) → has_float (stopped_data answers n) ≡ false
 stopped_has_none answers n = rw (array_has_none answer_data answer_has_none answers) refl
+
+pub denied_has_none : (answers : List Answer) (place : ℕ) (reason : List ℕ) (rule : Option (List ℕ)) → has_float (denied_data answers place reason rule) ≡ false
+unfolding denied_data
+denied_has_none answers place reason rule = rw (array_has_none answer_data answer_has_none answers, code_has_none rule) refl
+
+pub denial_has_none : (reason : List ℕ) (rule : Option (List ℕ)) → has_float (denial_data reason rule) ≡ false
+unfolding denial_data
+denial_has_none reason rule = rw (code_has_none rule) refl

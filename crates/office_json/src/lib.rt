@@ -9,7 +9,8 @@
 //!
 //! What the office reports of a record goes out by [`record_value`], what is due on a day by
 //! [`due_value`], and what is overdue by [`overdue_value`]. [`answers_value`], [`stopped_value`],
-//! [`fault_value`] and [`bad_act_value`] are the replies to a list of acts. Each is a value of JSON
+//! [`fault_value`] and [`bad_act_value`] are the replies to a list of acts; [`denied_value`] and
+//! [`denial_value`] those to what a name may not do. Each is a value of JSON
 //! without a float, so [`text_of`] gives its text.
 #![tactic(auto)]
 
@@ -38,4 +39,7 @@ pub use lists::{ListFault, read_acts};
 pub use office_rules::{Content, ReadFault};
 pub use overdue_json::{overdue_row_value, overdue_value};
 pub use record_json::record_value;
-pub use replies::{answers_value, bad_act_value, fault_value, stopped_value, text_of};
+pub use replies::{
+    DenialText, answers_value, bad_act_value, denial_value, denied_value, fault_value,
+    stopped_value, text_of,
+};

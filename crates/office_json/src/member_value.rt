@@ -55,6 +55,16 @@ pub(crate) fn reported_code<'a>(code: Option<&'a Code>) -> MemberValue<'a>
     }
 }
 
+/// A text that may be missing.
+pub(crate) fn reported_text<'a>(text: Option<&'a str>) -> MemberValue<'a>
+    ensures { member_data result ≡ or_null string (option_copied text.entry) }
+{
+    match text {
+        Some(text) => MemberValue::Text(text),
+        None => MemberValue::Nothing,
+    }
+}
+
 /// What is reported, in JSON.
 fn value_of(alloc: Global, reported: &MemberValue<'_>) -> Result<Value, AllocError>
     ensures { IfOk result (λ value. view value ≡ member_data reported.now) }

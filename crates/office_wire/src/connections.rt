@@ -57,7 +57,7 @@ fn serve_next<C: ConnectionSource, S: Alter>(
 }
 
 /// Whether serving ends after a connection: its answer was 503, and the desk was poisoned.
-fn ends_after<S: Alter>(desk: &Desk<S>, served: Result<u16, Io>) -> bool
+pub fn ends_after<S: Alter>(desk: &Desk<S>, served: Result<u16, Io>) -> bool
     ensures { Ends served desk.now.is_poisoned result }
 {
     match served {
@@ -67,7 +67,7 @@ fn ends_after<S: Alter>(desk: &Desk<S>, served: Result<u16, Io>) -> bool
 }
 
 /// Whether a connection has failed, this one or an earlier one.
-fn failed_by(earlier: bool, served: Result<u16, Io>) -> bool
+pub fn failed_by(earlier: bool, served: Result<u16, Io>) -> bool
     ensures { result ≡ (earlier || has_failed served) }
 {
     earlier || served.is_err()

@@ -38,7 +38,7 @@ pub struct OutgoingReply {
 }
 
 /// An answer from fixed bytes.
-fn error_to_send(error: RequestError, is_head: bool) -> Option<OutgoingReply>
+pub fn error_to_send(error: RequestError, is_head: bool) -> Option<OutgoingReply>
     ensures { IsFailed error is_head result }
 {
     let reply = error_reply(error);

@@ -25,8 +25,10 @@ mod sockets;
 
 pub use answers::answer;
 pub use connection_source::ConnectionSource;
-pub use connections::{Service, Serving, serve_all, serve_each, serve_session};
-pub use exchange::{OutgoingReply, answer_next, send, serve_one, serve_with};
+pub use connections::{
+    Service, Serving, ends_after, failed_by, serve_all, serve_each, serve_session,
+};
+pub use exchange::{OutgoingReply, answer_next, error_to_send, send, serve_one, serve_with};
 pub use office_base::Io;
 pub use office_http::{
     ActsBody, LONGEST, ParsedRequest, ReceiveStop, Received, RequestKind, Routes, receive,
@@ -34,5 +36,7 @@ pub use office_http::{
 pub use office_json::{ReadFault, answer_value, read_act};
 pub use record_import::{ImportStop, import_records};
 pub use registers::{ExportStop, export_due, export_entries, export_overdue};
+pub use replies::{acts_reply, bad_act_reply, json_reply, stopped_reply};
 pub use request_list::{RequestList, SentAnswer};
 pub use sessions::law_of_sessions;
+pub use sockets::Sockets;

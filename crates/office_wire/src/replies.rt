@@ -23,7 +23,7 @@ use std::alloc::Global;
 
 /// An answer whose body is JSON.
 #[tactic(auto, unfolding(crate::specs::Replies::json_response))]
-fn json_reply(alloc: Global, status: Status, value: &Value) -> Result<Reply, Memory>
+pub fn json_reply(alloc: Global, status: Status, value: &Value) -> Result<Reply, Memory>
     requires { has_float (view value.now) ≡ false }
     ensures { IfOk result (λ reply. response reply ≡ json_response status (view value.now)) }
 {
@@ -48,7 +48,7 @@ fn answered_status(is_refused: bool) -> Status
 }
 
 /// The answers to acts.
-pub(crate) fn acts_reply(alloc: Global, answers: &[Answer]) -> Result<Reply, Memory>
+pub fn acts_reply(alloc: Global, answers: &[Answer]) -> Result<Reply, Memory>
     ensures { IfOk result (λ reply. response reply ≡ acts_response answers.now) }
 {
     let value = answers_value(alloc, answers)?;
@@ -56,11 +56,7 @@ pub(crate) fn acts_reply(alloc: Global, answers: &[Answer]) -> Result<Reply, Mem
 }
 
 /// The answers to the acts before a fault, and the fault.
-pub(crate) fn stopped_reply(
-    alloc: Global,
-    answers: &[Answer],
-    fault: Fault,
-) -> Result<Reply, Memory>
+pub fn stopped_reply(alloc: Global, answers: &[Answer], fault: Fault) -> Result<Reply, Memory>
     ensures { IfOk result (λ reply. response reply ≡ stopped_response answers.now fault) }
 {
     let value = stopped_value(alloc, answers, fault.number())?;
@@ -68,7 +64,7 @@ pub(crate) fn stopped_reply(
 }
 
 /// A fault.
-pub(crate) fn fault_reply(alloc: Global, fault: Fault) -> Result<Reply, Memory>
+pub fn fault_reply(alloc: Global, fault: Fault) -> Result<Reply, Memory>
     ensures { IfOk result (λ reply. response reply ≡ fault_response fault) }
 {
     let value = fault_value(alloc, fault.number())?;
@@ -76,7 +72,7 @@ pub(crate) fn fault_reply(alloc: Global, fault: Fault) -> Result<Reply, Memory>
 }
 
 /// The first value that asks for no act.
-pub(crate) fn bad_act_reply(alloc: Global, place: u64, refusal: Refusal) -> Result<Reply, Memory>
+pub fn bad_act_reply(alloc: Global, place: u64, refusal: Refusal) -> Result<Reply, Memory>
     ensures { IfOk result (λ reply. response reply ≡ bad_act_response place refusal) }
 {
     let value = bad_act_value(alloc, place, refusal)?;
@@ -84,7 +80,7 @@ pub(crate) fn bad_act_reply(alloc: Global, place: u64, refusal: Refusal) -> Resu
 }
 
 /// The answer to one act.
-pub(crate) fn answer_reply(alloc: Global, answer: &Answer) -> Result<Reply, Memory>
+pub fn answer_reply(alloc: Global, answer: &Answer) -> Result<Reply, Memory>
     ensures { IfOk result (λ reply. response reply ≡ answer_response answer.now) }
 {
     let value = answer_value(alloc, answer)?;

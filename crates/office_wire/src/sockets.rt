@@ -20,11 +20,11 @@ const ACCEPT_PAUSE: u64 = 100;
 /// The connections that a listener accepts, each within its time by the clock. One that fails is
 /// reported on `err`.
 #[derive(Drop)]
-pub(crate) struct Sockets<'a, L, K, E> {
-    pub(crate) alloc: Global,
-    pub(crate) listener: &'a L,
-    pub(crate) clock: &'a K,
-    pub(crate) err: E,
+pub struct Sockets<'a, L, K, E> {
+    pub alloc: Global,
+    pub listener: &'a L,
+    pub clock: &'a K,
+    pub err: E,
 }
 
 /// The two sides of a connection.
