@@ -1,0 +1,5 @@
+pub mod Answering
+pub mod Paths
+pub mod Performing
+pub mod Replies
+pub mod Visitors

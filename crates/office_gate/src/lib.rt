@@ -1,0 +1,15 @@
+//! The office behind a policy, on the wire: what a request asks for is done for the name that signed
+//! in, as far as it is permitted to the name in the office as it then stands.
+//!
+//! [`answer_for`] is `office_wire::answer` for a visitor: acts are performed by a
+//! `office_guard::Keeper`, so that each is judged in the office in which it is then done, and what a
+//! path asks for is denied or served. What is denied is answered with status 403 and the reason.
+#![tactic(auto)]
+
+mod acts;
+mod answers;
+mod denials;
+mod readings;
+
+pub use answers::answer_for;
+pub use denials::{denial_reply, denied_reply, token_reply};
