@@ -55,7 +55,8 @@ impl Rules {
         self.opener_does_not_carry_out && kind_of(act).is(Kind::RunStep) && is_opener(office, signs)
     }
 
-    /// Reports whether whoever confirmed would open a run, or whoever has a part in one would decide.
+    /// Reports whether whoever confirmed would open a run, or whoever has a part in one would
+    /// decide.
     fn forbid_confirmer<V: OfficeView>(
         &self,
         office: &V,
@@ -73,8 +74,8 @@ impl Rules {
                 || is_decision(act) && has_part(office, signs, grants))
     }
 
-    /// Reports whether whoever changed a record would open a run, or whoever has a part in one would
-    /// decide, or make something that a run may take.
+    /// Reports whether whoever changed a record would open a run, or whoever has a part in one
+    /// would decide, or make something that a run may take.
     fn forbid_changer<V: OfficeView>(
         &self,
         office: &V,

@@ -120,8 +120,8 @@ impl Policy {
         }
     }
 
-    /// Finds why it is denied to the name to read that of a thing of that class, if it is. `None` is
-    /// what lies in no class. `is_sent` says whether a run sent the thing to an archive and none
+    /// Finds why it is denied to the name to read that of a thing of that class, if it is. `None`
+    /// is what lies in no class. `is_sent` says whether a run sent the thing to an archive and none
     /// ended it.
     pub fn permit_reading(
         &self,

@@ -80,7 +80,8 @@ impl Policy {
     ) -> Option<Policy>
         ensures { result
             ≡ (if are_apart people.items
-            then Some (record { people = people.items; taken = taken.items; others = others; rules = rules })
+            then Some (record {
+            people = people.items; taken = taken.items; others = others; rules = rules })
             else None) }
     {
         if !are_apart(&people) {

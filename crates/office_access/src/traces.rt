@@ -30,7 +30,8 @@ fn is_within(days: u16, day: Day, before: Day) -> bool
 /// Reports whether the name confirmed the record last.
 fn is_confirmer(tree: &Tree, signs: &Text, record_no: RecordNo) -> bool
     requires { IsTrue (has_record tree.now record_no) }
-    ensures { result ≡ is_some_and (confirmation_of tree.now record_no) (λ it. bytes_eq it.by signs.now) }
+    ensures { result
+        ≡ is_some_and (confirmation_of tree.now record_no) (λ it. bytes_eq it.by signs.now) }
 {
     match &tree.record(record_no).confirmation {
         Some(confirmation) => confirmation.by == *signs,
@@ -66,7 +67,8 @@ fn is_recorder(tree: &Tree, signs: &Text, period: (u16, Day), record_no: RecordN
 /// Reports whether the name filed the receipt of the record.
 fn is_receiver(tree: &Tree, signs: &Text, record_no: RecordNo) -> bool
     requires { IsTrue (has_record tree.now record_no) }
-    ensures { result ≡ is_some_and (receipt_of tree.now record_no) (λ it. bytes_eq it.by signs.now) }
+    ensures { result
+        ≡ is_some_and (receipt_of tree.now record_no) (λ it. bytes_eq it.by signs.now) }
 {
     match &tree.record(record_no).receipt {
         Some(receipt) => receipt.by == *signs,

@@ -1,20 +1,20 @@
 -- The words of a text up to a place, and those of the rest.
-use Rattle.std.proofs.Common.{◌≡◌, ◌∙◌, ◌+◌, ◌-◌, ◌<◌, ◌≤◌, ℕ, zero, suc, List, [], ◌∷◌, ◌++◌, length, map, take, drop, get_or, cond, Bool, true, false, refl, sym, ap, arith, append_assoc, append-nil, add-one, drop-cons, length-drop, slice_range}
+use Rattle.std.proofs.Common.{◌≡◌, ◌∙◌, ◌+◌, ◌-◌, ◌<◌, ◌≤◌, ℕ, List, [], ◌∷◌, ◌++◌, length, take, drop, get_or, cond, Bool, true, false, refl, sym, ap, arith, append_assoc, add-one, drop-cons, length-drop, slice_range}
 use Rattle.std.proofs.lemmas.List.{get_or-drop, take_more}
-use Rattle.office_settings.specs.Words.{closed, is_blank, words_from}
+use Rattle.office_settings.specs.Tokens.{closed, is_blank, tokens_from}
 
 -- ---- the next byte
 
 rest_at : (text : List ℕ) (i b : ℕ) → i < length text → b ≡ get_or text i 0 → drop i text ≡ b ∷ drop (i + 1) text
 rest_at text i b low at = rw (at, add-one i) (drop-cons text i 0 low)
 
-by_byte : (word : List ℕ) (b : ℕ) (rest : List ℕ) (blank : Bool) → is_blank b ≡ blank
-    → words_from word (b ∷ rest) ≡ cond blank (closed word (words_from [] rest)) (words_from (word ++ b ∷ []) rest)
-by_byte word b rest blank e = ap (λ k. cond k (closed word (words_from [] rest)) (words_from (word ++ b ∷ []) rest)) e
+by_byte : (token : List ℕ) (b : ℕ) (rest : List ℕ) (blank : Bool) → is_blank b ≡ blank
+    → tokens_from token (b ∷ rest) ≡ cond blank (closed token (tokens_from [] rest)) (tokens_from (token ++ b ∷ []) rest)
+by_byte token b rest blank e = ap (λ k. cond k (closed token (tokens_from [] rest)) (tokens_from (token ++ b ∷ []) rest)) e
 
-closed-append : (word : List ℕ) (others : List (List ℕ)) → closed word others ≡ closed word [] ++ others
+closed-append : (token : List ℕ) (others : List (List ℕ)) → closed token others ≡ closed token [] ++ others
 closed-append [] others = refl
-closed-append (b ∷ word) others = refl
+closed-append (b ∷ token) others = refl
 
 -- the word between two places has one byte more
 range_more : (text : List ℕ) (start i b : ℕ) → start ≤ i → i < length text → b ≡ get_or text i 0
@@ -36,41 +36,41 @@ range_none text i = let none : i - i ≡ 0 = omega arith in ap (λ k. take k (dr
 
 -- ---- the words so far
 
-pub record AreCut (text : List ℕ) (found : List (List ℕ)) (start i : ℕ) : Type 0 where
+pub record AreCut (text : List ℕ) (cut : List (List ℕ)) (start i : ℕ) : Type 0 where
   pub order : start ≤ i
-  pub rest : found ++ words_from (slice_range text start i) (drop i text) ≡ words_from [] text
+  pub rest : cut ++ tokens_from (slice_range text start i) (drop i text) ≡ tokens_from [] text
 
 pub none_cut : (text : List ℕ) → AreCut text [] 0 0
 none_cut text = record { order = omega arith; rest = refl }
 
 -- a byte of a word
-pub byte_cut : (text : List ℕ) (found : List (List ℕ)) (start i b : ℕ) → i < length text → b ≡ get_or text i 0 → is_blank b ≡ false
-    → AreCut text found start i → AreCut text found start (i + 1)
-byte_cut text found start i b within at off done = record {
+pub byte_cut : (text : List ℕ) (cut : List (List ℕ)) (start i b : ℕ) → i < length text → b ≡ get_or text i 0 → is_blank b ≡ false
+    → AreCut text cut start i → AreCut text cut start (i + 1)
+byte_cut text cut start i b within at off done = record {
   order = let before = done.order in omega (arith, before);
   rest =
-      ap (λ w. found ++ words_from w (drop (i + 1) text)) (range_more text start i b done.order within at)
-      ∙ ap (λ ws. found ++ ws) (sym (by_byte (slice_range text start i) b (drop (i + 1) text) false off))
-      ∙ ap (λ xs. found ++ words_from (slice_range text start i) xs) (sym (rest_at text i b within at))
+      ap (λ w. cut ++ tokens_from w (drop (i + 1) text)) (range_more text start i b done.order within at)
+      ∙ ap (λ ws. cut ++ ws) (sym (by_byte (slice_range text start i) b (drop (i + 1) text) false off))
+      ∙ ap (λ xs. cut ++ tokens_from (slice_range text start i) xs) (sym (rest_at text i b within at))
       ∙ done.rest;
 }
 
 -- a blank
-pub blank_cut : (text : List ℕ) (found more : List (List ℕ)) (start i b : ℕ) → i < length text → b ≡ get_or text i 0 → is_blank b ≡ true
-    → more ≡ found ++ closed (slice_range text start i) [] → AreCut text found start i → AreCut text more (i + 1) (i + 1)
-blank_cut text found more start i b within at on is done = record {
+pub blank_cut : (text : List ℕ) (cut more : List (List ℕ)) (start i b : ℕ) → i < length text → b ≡ get_or text i 0 → is_blank b ≡ true
+    → more ≡ cut ++ closed (slice_range text start i) [] → AreCut text cut start i → AreCut text more (i + 1) (i + 1)
+blank_cut text cut more start i b within at on is done = record {
   order = omega arith;
   rest =
-      ap (λ w. more ++ words_from w (drop (i + 1) text)) (range_none text (i + 1))
-      ∙ ap (λ ws. ws ++ words_from [] (drop (i + 1) text)) is
-      ∙ append_assoc found (closed (slice_range text start i) []) (words_from [] (drop (i + 1) text))
-      ∙ ap (λ ws. found ++ ws) (sym (closed-append (slice_range text start i) (words_from [] (drop (i + 1) text))))
-      ∙ ap (λ ws. found ++ ws) (sym (by_byte (slice_range text start i) b (drop (i + 1) text) true on))
-      ∙ ap (λ xs. found ++ words_from (slice_range text start i) xs) (sym (rest_at text i b within at))
+      ap (λ w. more ++ tokens_from w (drop (i + 1) text)) (range_none text (i + 1))
+      ∙ ap (λ ws. ws ++ tokens_from [] (drop (i + 1) text)) is
+      ∙ append_assoc cut (closed (slice_range text start i) []) (tokens_from [] (drop (i + 1) text))
+      ∙ ap (λ ws. cut ++ ws) (sym (closed-append (slice_range text start i) (tokens_from [] (drop (i + 1) text))))
+      ∙ ap (λ ws. cut ++ ws) (sym (by_byte (slice_range text start i) b (drop (i + 1) text) true on))
+      ∙ ap (λ xs. cut ++ tokens_from (slice_range text start i) xs) (sym (rest_at text i b within at))
       ∙ done.rest;
 }
 
 -- the end
-pub all_cut : (text : List ℕ) (found more : List (List ℕ)) (start i : ℕ) → drop i text ≡ [] → more ≡ found ++ closed (slice_range text start i) []
-    → AreCut text found start i → more ≡ words_from [] text
-all_cut text found more start i none is done = is ∙ ap (λ xs. found ++ words_from (slice_range text start i) xs) (sym none) ∙ done.rest
+pub all_cut : (text : List ℕ) (cut more : List (List ℕ)) (start i : ℕ) → drop i text ≡ [] → more ≡ cut ++ closed (slice_range text start i) []
+    → AreCut text cut start i → more ≡ tokens_from [] text
+all_cut text cut more start i none is done = is ∙ ap (λ xs. cut ++ tokens_from (slice_range text start i) xs) (sym none) ∙ done.rest

@@ -1,16 +1,16 @@
 -- A number read digit by digit.
-use Rattle.std.proofs.Common.{◌≡◌, ◌∙◌, ◌+◌, ◌-◌, ◌*◌, ◌<◌, ◌≤◌, ◌&&◌, nat_le, ℕ, zero, suc, List, [], ◌∷◌, length, drop, get_or, cond, Bool, true, false, Option, Some, None, refl, sym, ap, arith, add-one, drop-cons}
+use Rattle.std.proofs.Common.{◌≡◌, ◌∙◌, ◌+◌, ◌-◌, ◌*◌, ◌<◌, ◌≤◌, ◌&&◌, nat_le, ℕ, List, [], ◌∷◌, length, drop, get_or, cond, Bool, true, false, Some, None, refl, sym, ap, arith, add-one, drop-cons}
 use Rattle.office_settings.specs.Numbers.{bounded, number_between, number_from, number_in}
 
 rest_at : (text : List ℕ) (i b : ℕ) → i < length text → b ≡ get_or text i 0 → drop i text ≡ b ∷ drop (i + 1) text
 rest_at text i b low at = rw (at, add-one i) (drop-cons text i 0 low)
 
 -- the digits before a place are read, and those of the rest are left
-pub record AreRead (word : List ℕ) (most number i : ℕ) : Type 0 where
+pub record AreRead (token : List ℕ) (most number i : ℕ) : Type 0 where
   pub fits : number ≤ most
-  pub value : number_from number (drop i word) ≡ number_in word
+  pub value : number_from number (drop i token) ≡ number_in token
 
-pub none_read : (word : List ℕ) (most : ℕ) → 0 < length word → AreRead word most 0 0
+pub none_read : (token : List ℕ) (most : ℕ) → 0 < length token → AreRead token most 0 0
 none_read [] most some = absurd (omega (arith, some))
 none_read (b ∷ rest) most some = record { fits = omega arith; value = refl }
 
@@ -26,32 +26,32 @@ no_digit_below b low = grind arith
 no_digit_above : (b : ℕ) → 57 < b → (nat_le 48 b && nat_le b 57) ≡ false
 no_digit_above b high = grind arith
 
-left_at : (word : List ℕ) (n i b : ℕ) → i < length word → b ≡ get_or word i 0 → number_from n (drop i word) ≡ number_in word → number_from n (b ∷ drop (i + 1) word) ≡ number_in word
-left_at word n i b within at value = ap (number_from n) (sym (rest_at word i b within at)) ∙ value
+left_at : (token : List ℕ) (n i b : ℕ) → i < length token → b ≡ get_or token i 0 → number_from n (drop i token) ≡ number_in token → number_from n (b ∷ drop (i + 1) token) ≡ number_in token
+left_at token n i b within at value = ap (number_from n) (sym (rest_at token i b within at)) ∙ value
 
 -- one digit more
-pub digit_read : (word : List ℕ) (most n m i b : ℕ) → i < length word → b ≡ get_or word i 0 → 48 ≤ b → b ≤ 57 → m ≡ n * 10 + (b - 48) → m ≤ most
-    → AreRead word most n i → AreRead word most m (i + 1)
-digit_read word most n m i b within at low high is fits done = record {
+pub digit_read : (token : List ℕ) (most n m i b : ℕ) → i < length token → b ≡ get_or token i 0 → 48 ≤ b → b ≤ 57 → m ≡ n * 10 + (b - 48) → m ≤ most
+    → AreRead token most n i → AreRead token most m (i + 1)
+digit_read token most n m i b within at low high is fits done = record {
   fits = fits;
   value =
-      ap (λ k. number_from k (drop (i + 1) word)) (is ∙ turned n (b - 48))
-      ∙ sym (by_byte n b (drop (i + 1) word) true (is_digit b low high)) ∙ left_at word n i b within at done.value;
+      ap (λ k. number_from k (drop (i + 1) token)) (is ∙ turned n (b - 48))
+      ∙ sym (by_byte n b (drop (i + 1) token) true (is_digit b low high)) ∙ left_at token n i b within at done.value;
 }
   where
     turned : (n d : ℕ) → n * 10 + d ≡ 10 * n + d
     turned n d = omega arith
 
 -- a byte that is no digit
-pub none_below : (word : List ℕ) (least most n i b : ℕ) → i < length word → b ≡ get_or word i 0 → b < 48 → AreRead word most n i → None ≡ number_between least most word
+pub none_below : (token : List ℕ) (least most n i b : ℕ) → i < length token → b ≡ get_or token i 0 → b < 48 → AreRead token most n i → None ≡ number_between least most token
 unfolding number_between
-none_below word least most n i b within at low done =
-    ap (bounded least most) (sym (by_byte n b (drop (i + 1) word) false (no_digit_below b low)) ∙ left_at word n i b within at done.value)
+none_below token least most n i b within at low done =
+    ap (bounded least most) (sym (by_byte n b (drop (i + 1) token) false (no_digit_below b low)) ∙ left_at token n i b within at done.value)
 
-pub none_above : (word : List ℕ) (least most n i b : ℕ) → i < length word → b ≡ get_or word i 0 → 57 < b → AreRead word most n i → None ≡ number_between least most word
+pub none_above : (token : List ℕ) (least most n i b : ℕ) → i < length token → b ≡ get_or token i 0 → 57 < b → AreRead token most n i → None ≡ number_between least most token
 unfolding number_between
-none_above word least most n i b within at high done =
-    ap (bounded least most) (sym (by_byte n b (drop (i + 1) word) false (no_digit_above b high)) ∙ left_at word n i b within at done.value)
+none_above token least most n i b within at high done =
+    ap (bounded least most) (sym (by_byte n b (drop (i + 1) token) false (no_digit_above b high)) ∙ left_at token n i b within at done.value)
 
 -- a number that is too great stays so
 grows_by : (least most n b : ℕ) (rest : List ℕ) (digit : Bool) → most < n → ((m : ℕ) → most < m → bounded least most (number_from m rest) ≡ None)
@@ -74,17 +74,17 @@ pub stays_over : (least most n : ℕ) (rest : List ℕ) → most < n → bounded
 stays_over least most n [] over = over_none least most n over
 stays_over least most n (b ∷ rest) over = grows_by least most n b rest (nat_le 48 b && nat_le b 57) over (λ m more. stays_over least most m rest more)
 
-pub none_over : (word : List ℕ) (least most n m i b : ℕ) → i < length word → b ≡ get_or word i 0 → 48 ≤ b → b ≤ 57 → m ≡ n * 10 + (b - 48) → most < m
-    → AreRead word most n i → None ≡ number_between least most word
+pub none_over : (token : List ℕ) (least most n m i b : ℕ) → i < length token → b ≡ get_or token i 0 → 48 ≤ b → b ≤ 57 → m ≡ n * 10 + (b - 48) → most < m
+    → AreRead token most n i → None ≡ number_between least most token
 unfolding number_between
-none_over word least most n m i b within at low high is over done =
-    sym (stays_over least most m (drop (i + 1) word) over)
-    ∙ ap (λ k. bounded least most (number_from k (drop (i + 1) word))) (is ∙ turned n (b - 48))
-    ∙ ap (bounded least most) (sym (by_byte n b (drop (i + 1) word) true (is_digit b low high)) ∙ left_at word n i b within at done.value)
+none_over token least most n m i b within at low high is over done =
+    sym (stays_over least most m (drop (i + 1) token) over)
+    ∙ ap (λ k. bounded least most (number_from k (drop (i + 1) token))) (is ∙ turned n (b - 48))
+    ∙ ap (bounded least most) (sym (by_byte n b (drop (i + 1) token) true (is_digit b low high)) ∙ left_at token n i b within at done.value)
   where
     turned : (n d : ℕ) → n * 10 + d ≡ 10 * n + d
     turned n d = omega arith
 
 -- all digits
-pub all_read : (word : List ℕ) (most n i : ℕ) → drop i word ≡ [] → AreRead word most n i → Some n ≡ number_in word
-all_read word most n i none done = ap (number_from n) (sym none) ∙ done.value
+pub all_read : (token : List ℕ) (most n i : ℕ) → drop i token ≡ [] → AreRead token most n i → Some n ≡ number_in token
+all_read token most n i none done = ap (number_from n) (sym none) ∙ done.value

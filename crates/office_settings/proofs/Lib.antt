@@ -1,4 +1,6 @@
 pub mod Cut
 pub mod Digits
-pub mod Remarks
+pub mod Joined
 pub mod Marks
+pub mod Remarks
+pub mod Texts

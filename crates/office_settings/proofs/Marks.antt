@@ -1,10 +1,9 @@
 -- The place of a mark among words.
-use Rattle.std.proofs.Common.{◌≡◌, ◌∙◌, ◌+◌, ◌<◌, ◌≤◌, nat_lt, ℕ, List, [], ◌∷◌, length, map, take, drop, not, cond, Bool, Option, Some, None, Result, Ok, Err, true, false, refl, sym, ap, arith}
+use Rattle.std.proofs.Common.{◌≡◌, ◌∙◌, ◌+◌, ◌<◌, ◌≤◌, nat_lt, ℕ, List, [], ◌∷◌, length, map, take, drop, not, cond, Bool, Some, None, Ok, Err, true, false, refl, ap, arith}
 use Rattle.std.specs.Str.{bytes_eq}
 use Rattle.std.proofs.lemmas.List.{drop-map, length-map, take-map}
-use Rattle.office_settings.specs.declared.wrong.Wrong.{Wrong}
 use Rattle.office_settings.specs.declared.wrong.Wrong.TheVariants.{NothingFollows}
-use Rattle.office_settings.specs.Statements.{Parts, parted, parted_at}
+use Rattle.office_settings.specs.Statements.{parted, parted_at}
 use Rattle.std.specs.List.{list_all, position, prefix_len}
 use Rattle.std.proofs.lemmas.List.Folds.{list_all-map}
 
@@ -20,39 +19,39 @@ position-map p f xs =
 pub list_all_map : {X : Type 0} (p : List ℕ → Bool) (f : X → List ℕ) (xs : List X) → list_all p (map f xs) ≡ list_all (λ x. p (f x)) xs
 list_all_map p f xs = list_all-map p f xs
 
-some_at : {X : Type 0} (f : X → List ℕ) (words : List X) (n : ℕ) → n + 1 < length words
-    → parted_at (map f words) (Some n) ≡ Ok (record { before = map f (take n words); after = map f (drop (n + 1) words) })
-some_at f words n low =
-    let test : nat_lt (n + 1) (length (map f words)) ≡ true = ap (nat_lt (n + 1)) (length-map words f) ∙ below (n + 1) (length words) low in
-    ap (λ b. cond b (Ok (record { before = take n (map f words); after = drop (n + 1) (map f words) })) (Err NothingFollows)) test
-    ∙ ap (λ (xs : List (List ℕ)). Ok (record { before = xs; after = drop (n + 1) (map f words) })) (take-map f n words)
-    ∙ ap (λ (xs : List (List ℕ)). Ok (record { before = map f (take n words); after = xs })) (drop-map f (n + 1) words)
+some_at : {X : Type 0} (f : X → List ℕ) (tokens : List X) (n : ℕ) → n + 1 < length tokens
+    → parted_at (map f tokens) (Some n) ≡ Ok (record { before = map f (take n tokens); after = map f (drop (n + 1) tokens) })
+some_at f tokens n low =
+    let test : nat_lt (n + 1) (length (map f tokens)) ≡ true = ap (nat_lt (n + 1)) (length-map tokens f) ∙ below (n + 1) (length tokens) low in
+    ap (λ b. cond b (Ok (record { before = take n (map f tokens); after = drop (n + 1) (map f tokens) })) (Err NothingFollows)) test
+    ∙ ap (λ (xs : List (List ℕ)). Ok (record { before = xs; after = drop (n + 1) (map f tokens) })) (take-map f n tokens)
+    ∙ ap (λ (xs : List (List ℕ)). Ok (record { before = map f (take n tokens); after = xs })) (drop-map f (n + 1) tokens)
   where
     below : (a b : ℕ) → a < b → nat_lt a b ≡ true
     below a b h = grind arith
 
 -- words that a mark parts
-pub parted_some : {X : Type 0} (f : X → List ℕ) (mark : List ℕ) (words : List X) (n : ℕ) → position (λ w. bytes_eq (f w) mark) words ≡ Some n → n + 1 < length words
-    → parted mark (map f words) ≡ Ok (record { before = map f (take n words); after = map f (drop (n + 1) words) })
+pub parted_some : {X : Type 0} (f : X → List ℕ) (mark : List ℕ) (tokens : List X) (n : ℕ) → position (λ w. bytes_eq (f w) mark) tokens ≡ Some n → n + 1 < length tokens
+    → parted mark (map f tokens) ≡ Ok (record { before = map f (take n tokens); after = map f (drop (n + 1) tokens) })
 unfolding parted
-parted_some f mark words n h low = ap (parted_at (map f words)) (position-map (λ w. bytes_eq w mark) f words ∙ h) ∙ some_at f words n low
+parted_some f mark tokens n h low = ap (parted_at (map f tokens)) (position-map (λ w. bytes_eq w mark) f tokens ∙ h) ∙ some_at f tokens n low
 
 -- words without the mark
-pub parted_none : {X : Type 0} (f : X → List ℕ) (mark : List ℕ) (words : List X) → position (λ w. bytes_eq (f w) mark) words ≡ None
-    → parted mark (map f words) ≡ Ok (record { before = map f words; after = [] })
+pub parted_none : {X : Type 0} (f : X → List ℕ) (mark : List ℕ) (tokens : List X) → position (λ w. bytes_eq (f w) mark) tokens ≡ None
+    → parted mark (map f tokens) ≡ Ok (record { before = map f tokens; after = [] })
 unfolding parted
-parted_none f mark words h = ap (parted_at (map f words)) (position-map (λ w. bytes_eq w mark) f words ∙ h)
+parted_none f mark tokens h = ap (parted_at (map f tokens)) (position-map (λ w. bytes_eq w mark) f tokens ∙ h)
 
-last_at : {X : Type 0} (f : X → List ℕ) (words : List X) (n : ℕ) → length words ≤ n + 1 → parted_at (map f words) (Some n) ≡ Err NothingFollows
-last_at f words n high =
-    let test : nat_lt (n + 1) (length (map f words)) ≡ false = ap (nat_lt (n + 1)) (length-map words f) ∙ above (n + 1) (length words) high in
-    ap (λ b. cond b (Ok (record { before = take n (map f words); after = drop (n + 1) (map f words) })) (Err NothingFollows)) test
+last_at : {X : Type 0} (f : X → List ℕ) (tokens : List X) (n : ℕ) → length tokens ≤ n + 1 → parted_at (map f tokens) (Some n) ≡ Err NothingFollows
+last_at f tokens n high =
+    let test : nat_lt (n + 1) (length (map f tokens)) ≡ false = ap (nat_lt (n + 1)) (length-map tokens f) ∙ above (n + 1) (length tokens) high in
+    ap (λ b. cond b (Ok (record { before = take n (map f tokens); after = drop (n + 1) (map f tokens) })) (Err NothingFollows)) test
   where
     above : (a b : ℕ) → b ≤ a → nat_lt a b ≡ false
     above a b h = grind arith
 
 -- words that end with the mark
-pub parted_last : {X : Type 0} (f : X → List ℕ) (mark : List ℕ) (words : List X) (n : ℕ) → position (λ w. bytes_eq (f w) mark) words ≡ Some n → length words ≤ n + 1
-    → parted mark (map f words) ≡ Err NothingFollows
+pub parted_last : {X : Type 0} (f : X → List ℕ) (mark : List ℕ) (tokens : List X) (n : ℕ) → position (λ w. bytes_eq (f w) mark) tokens ≡ Some n → length tokens ≤ n + 1
+    → parted mark (map f tokens) ≡ Err NothingFollows
 unfolding parted
-parted_last f mark words n h high = ap (parted_at (map f words)) (position-map (λ w. bytes_eq w mark) f words ∙ h) ∙ last_at f words n high
+parted_last f mark tokens n h high = ap (parted_at (map f tokens)) (position-map (λ w. bytes_eq w mark) f tokens ∙ h) ∙ last_at f tokens n high

@@ -1,5 +1,5 @@
 -- What stands before the first byte of a kind.
-use Rattle.std.proofs.Common.{◌≡◌, ◌∙◌, ◌<◌, ◌≤◌, nat_lt, ℕ, List, length, take, cond, Bool, true, false, Option, Some, None, refl, sym, ap, arith}
+use Rattle.std.proofs.Common.{◌≡◌, ◌≤◌, nat_lt, ℕ, List, length, take, cond, Bool, true, false, Option, Some, None, refl, sym, ap, arith}
 use Rattle.std.specs.List.{before_first, position, position_or_len}
 use Rattle.std.proofs.lemmas.List.{take_all}
 

@@ -28,13 +28,13 @@ is_this_machine text =
 
 -- an address without a path; http is for this machine alone
 unfoldable pub is_site : List ℕ → Bool
-is_site word =
-    (starts_with nat_eq word (codes "https://") && is_host (drop 8 word))
-    || (starts_with nat_eq word (codes "http://") && is_this_machine (drop 7 word))
+is_site token =
+    (starts_with nat_eq token (codes "https://") && is_host (drop 8 token))
+    || (starts_with nat_eq token (codes "http://") && is_this_machine (drop 7 token))
 
 -- a byte of the name of a time zone: a letter, a digit, or / _ + -
 unfoldable pub is_zone_byte : ℕ → Bool
 is_zone_byte b = is_ascii_alphanumeric b || (b == 47) || (b == 95) || (b == 43) || (b == 45)
 
 unfoldable pub is_zone : List ℕ → Bool
-is_zone word = (nat_lt 0 (length word) && nat_le (length word) 64) && list_all is_zone_byte word
+is_zone token = (nat_lt 0 (length token) && nat_le (length token) 64) && list_all is_zone_byte token

@@ -1,8 +1,11 @@
 pub mod Addresses
+pub mod Files
 pub mod Forms
 pub mod Keywords
+pub mod Looks
 pub mod Numbers
-pub mod Statements
-pub mod Views
-pub mod Words
+pub mod Readings
 pub mod Reasons
+pub mod Statements
+pub mod Tokens
+pub mod Views

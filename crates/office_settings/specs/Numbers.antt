@@ -17,10 +17,10 @@ bounded least most (Some n) = if nat_le least n && nat_le n most then Some n els
 
 -- the number that a word writes, if it lies between these two
 unfoldable pub number_between : ℕ → ℕ → List ℕ → Option ℕ
-number_between least most word = bounded least most (number_in word)
+number_between least most token = bounded least most (number_in token)
 
 -- the number that the words write, if they are one word
 unfoldable pub only_number : ℕ → ℕ → List (List ℕ) → Option ℕ
 only_number least most [] = None
-only_number least most (word ∷ []) = number_between least most word
+only_number least most (token ∷ []) = number_between least most token
 only_number least most (first ∷ second ∷ rest) = None

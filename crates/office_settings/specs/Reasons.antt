@@ -1,7 +1,7 @@
 -- The reasons in words. Source: own.
 use Rattle.std.specs.Prelude.{ℕ, List, codes}
 use Rattle.office_settings.specs.declared.wrong.Wrong.{Wrong}
-use Rattle.office_settings.specs.declared.wrong.Wrong.TheVariants.{Beginning, RoleLine, Role, Condition, NothingFollows, SentActs, Act, Thing, Class, NameLine, Name, Rule, Number, Limit, Keep, Journal, Site, Zone}
+use Rattle.office_settings.specs.declared.wrong.Wrong.TheVariants.{Beginning, RoleLine, Role, Condition, NothingFollows, SentActs, Act, Thing, Class, NameLine, Name, Rule, Number, Limit, Keep, Journal, Site, Zone, NotUtf8, SetTwice, SignedText, Alike, UnknownRole, NoRole, NoSite, NoZone}
 
 -- the text of each reason
 abbrev pub reason : Wrong → List ℕ
@@ -23,3 +23,11 @@ reason Keep = codes "write: keep contents DAYS, or keep free MEGABYTES"
 reason Journal = codes "write: journal readings, or journal acts"
 reason Site = codes "a site is an address such as https://records.city.example, without a path"
 reason Zone = codes "a time zone is a word such as Europe/Berlin"
+reason NotUtf8 = codes "this is no UTF-8"
+reason SetTwice = codes "this is set already above"
+reason SignedText = codes "a text that is signed has at most 200 bytes, all of them printable"
+reason Alike = codes "this looks like another name of a line above, or like its text"
+reason UnknownRole = codes "no line says what one of these roles may do"
+reason NoRole = codes "this name signs, but no line says which role it is"
+reason NoSite = codes "there is no line 'site'"
+reason NoZone = codes "there is no line 'zone'"

@@ -45,20 +45,20 @@ pub record Parts : Type 0 where
   pub after : List (List ℕ)
 
 abbrev pub parted_at : List (List ℕ) → Option ℕ → Result Parts Wrong
-parted_at words None = Ok (record { before = words; after = [] })
-parted_at words (Some n) =
-    if nat_lt (n + 1) (length words) then Ok (record { before = take n words; after = drop (n + 1) words })
+parted_at tokens None = Ok (record { before = tokens; after = [] })
+parted_at tokens (Some n) =
+    if nat_lt (n + 1) (length tokens) then Ok (record { before = take n tokens; after = drop (n + 1) tokens })
     else Err NothingFollows
 
 unfoldable pub parted : List ℕ → List (List ℕ) → Result Parts Wrong
-parted mark words = parted_at words (position (λ word. bytes_eq word mark) words)
+parted mark tokens = parted_at tokens (position (λ token. bytes_eq token mark) tokens)
 
 -- ---- roles
 
 -- whether the words after `if` are the one that is known, or there are none
 unfoldable pub is_condition : List (List ℕ) → Bool
 is_condition [] = true
-is_condition (word ∷ []) = bytes_eq word (codes "sent")
+is_condition (token ∷ []) = bytes_eq token (codes "sent")
 is_condition (first ∷ second ∷ rest) = false
 
 abbrev pub acts_line : List ℕ → Parts → Result Line Wrong
@@ -134,43 +134,43 @@ reason_line acts =
 
 unfoldable pub rule_line : List (List ℕ) → Result Line Wrong
 rule_line [] = Err Rule
-rule_line (word ∷ rest) =
-    if bytes_eq word (codes "changer-does-not-open") then numbered changer (only_number 1 3_650 rest)
-    else if bytes_eq word (codes "reason-for") then reason_line rest
-    else if is_on_or_off word && (length rest == 0) then Ok (rule word)
+rule_line (token ∷ rest) =
+    if bytes_eq token (codes "changer-does-not-open") then numbered changer (only_number 1 3_650 rest)
+    else if bytes_eq token (codes "reason-for") then reason_line rest
+    else if is_on_or_off token && (length rest == 0) then Ok (rule token)
     else Err Rule
 
 unfoldable pub limit_line : List (List ℕ) → Result Line Wrong
 limit_line [] = Err Limit
-limit_line (word ∷ rest) =
-    if bytes_eq word (codes "requests") then numbered requests (only_number 1 1_000 rest)
-    else if bytes_eq word (codes "lists") then numbered lists (only_number 1 100 rest)
-    else if bytes_eq word (codes "journal-bytes") then numbered journal_bytes (only_number 10_000 1_000_000_000_000 rest)
+limit_line (token ∷ rest) =
+    if bytes_eq token (codes "requests") then numbered requests (only_number 1 1_000 rest)
+    else if bytes_eq token (codes "lists") then numbered lists (only_number 1 100 rest)
+    else if bytes_eq token (codes "journal-bytes") then numbered journal_bytes (only_number 10_000 1_000_000_000_000 rest)
     else Err Limit
 
 unfoldable pub keep_line : List (List ℕ) → Result Line Wrong
 keep_line [] = Err Keep
-keep_line (word ∷ rest) =
-    if bytes_eq word (codes "contents") then numbered content_days (only_number 0 366 rest)
-    else if bytes_eq word (codes "free") then numbered free_megabytes (only_number 0 1_000_000 rest)
+keep_line (token ∷ rest) =
+    if bytes_eq token (codes "contents") then numbered content_days (only_number 0 366 rest)
+    else if bytes_eq token (codes "free") then numbered free_megabytes (only_number 0 1_000_000 rest)
     else Err Keep
 
 unfoldable pub journal_line : List (List ℕ) → Result Line Wrong
 journal_line [] = Err Journal
-journal_line (word ∷ []) =
-    if bytes_eq word (codes "readings") then Ok (journals_readings true)
-    else if bytes_eq word (codes "acts") then Ok (journals_readings false)
+journal_line (token ∷ []) =
+    if bytes_eq token (codes "readings") then Ok (journals_readings true)
+    else if bytes_eq token (codes "acts") then Ok (journals_readings false)
     else Err Journal
 journal_line (first ∷ second ∷ rest) = Err Journal
 
 unfoldable pub zone_line : List (List ℕ) → Result Line Wrong
 zone_line [] = Err Zone
-zone_line (word ∷ []) = if is_zone word then Ok (zone word) else Err Zone
+zone_line (token ∷ []) = if is_zone token then Ok (zone token) else Err Zone
 zone_line (first ∷ second ∷ rest) = Err Zone
 
 unfoldable pub site_line : List (List ℕ) → Result Line Wrong
 site_line [] = Err Site
-site_line (word ∷ []) = if is_site word then Ok (site word) else Err Site
+site_line (token ∷ []) = if is_site token then Ok (site token) else Err Site
 site_line (first ∷ second ∷ rest) = Err Site
 
 -- ---- the whole
@@ -178,13 +178,13 @@ site_line (first ∷ second ∷ rest) = Err Site
 -- the statement that words are, or the first reason why they are none
 unfoldable pub statement_of : List (List ℕ) → Result Line Wrong
 statement_of [] = Err Beginning
-statement_of (word ∷ rest) =
-    if bytes_eq word (codes "role") then role_line rest
-    else if bytes_eq word (codes "name") then name_line rest
-    else if bytes_eq word (codes "rule") then rule_line rest
-    else if bytes_eq word (codes "limit") then limit_line rest
-    else if bytes_eq word (codes "keep") then keep_line rest
-    else if bytes_eq word (codes "journal") then journal_line rest
-    else if bytes_eq word (codes "site") then site_line rest
-    else if bytes_eq word (codes "zone") then zone_line rest
+statement_of (token ∷ rest) =
+    if bytes_eq token (codes "role") then role_line rest
+    else if bytes_eq token (codes "name") then name_line rest
+    else if bytes_eq token (codes "rule") then rule_line rest
+    else if bytes_eq token (codes "limit") then limit_line rest
+    else if bytes_eq token (codes "keep") then keep_line rest
+    else if bytes_eq token (codes "journal") then journal_line rest
+    else if bytes_eq token (codes "site") then site_line rest
+    else if bytes_eq token (codes "zone") then zone_line rest
     else Err Beginning

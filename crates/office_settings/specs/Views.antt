@@ -1,9 +1,6 @@
 -- Statements that were read, as the grammar has them. Source: own.
-use Rattle.std.specs.Prelude.{ℕ, List, map, Result, Ok, Err, true, false}
+use Rattle.std.specs.Prelude.{map, Result, Ok, Err}
 use Rattle.office_settings.specs.declared.parts.Parts.{Parts}
-use Rattle.office_settings.specs.declared.statement.RoleLine.{RoleLine}
-use Rattle.office_settings.specs.declared.statement.IsLine.{IsLine}
-use Rattle.office_settings.specs.declared.statement.SignsLine.{SignsLine}
 use Rattle.office_settings.specs.declared.statement.Statement.{Statement}
 use Rattle.office_settings.specs.declared.statement.Statement.TheVariants as it
 use Rattle.office_settings.specs.declared.wrong.Wrong.{Wrong}
@@ -20,7 +17,7 @@ line_of (it.Reads role is_for_sent) = grammar.reads role.role.now (map (λ w. w.
 line_of (it.Is line) = grammar.has line.name.now (map (λ w. w.now) line.roles.now) (map (λ w. w.now) line.classes.now)
 line_of (it.Others line) = grammar.others_have (map (λ w. w.now) line.roles.now) (map (λ w. w.now) line.classes.now)
 line_of (it.Signs line) = grammar.signs line.name.now (map (λ w. w.now) line.text.now)
-line_of (it.Rule word) = grammar.rule word.now
+line_of (it.Rule token) = grammar.rule token.now
 line_of (it.Changer days) = grammar.changer days
 line_of (it.ReasonFor acts) = grammar.reason_for (map (λ w. w.now) acts.now)
 line_of (it.Requests n) = grammar.requests n
@@ -29,8 +26,8 @@ line_of (it.JournalBytes n) = grammar.journal_bytes n
 line_of (it.ContentDays n) = grammar.content_days n
 line_of (it.FreeMegabytes n) = grammar.free_megabytes n
 line_of (it.JournalsReadings is) = grammar.journals_readings is
-line_of (it.Site word) = grammar.site word.now
-line_of (it.Zone word) = grammar.zone word.now
+line_of (it.Site token) = grammar.site token.now
+line_of (it.Zone token) = grammar.zone token.now
 
 abbrev pub read : Result Statement Wrong → Result grammar.Line Wrong
 read (Err wrong) = Err wrong

@@ -22,7 +22,7 @@ fn is_host_byte(byte: u8) -> bool
         || byte == b'-'
 }
 
-/// Whether a text can be a host with its port.
+/// Reports whether a text can be a host with its port.
 #[tactic(auto, unfolding(crate::specs::Addresses::is_host))]
 fn is_host(text: &[u8]) -> bool
     ensures { result ≡ is_host text.now }
@@ -43,7 +43,7 @@ fn are_digits(text: &[u8]) -> bool
     !text.is_empty() && are_digit_bytes(text)
 }
 
-/// Whether a text is empty, or a colon with the number of a port.
+/// Reports whether a text is empty, or a colon with the number of a port.
 #[tactic(auto, unfolding(crate::specs::Addresses::is_port))]
 fn is_port(text: &[u8]) -> bool
     ensures { result ≡ is_port text.now }
@@ -51,7 +51,7 @@ fn is_port(text: &[u8]) -> bool
     text.is_empty() || (text.starts_with(b":".as_slice()) && are_digits(&text[1..]))
 }
 
-/// Whether a host has that name, with a port or without.
+/// Reports whether a host has that name, with a port or without.
 #[tactic(auto, unfolding(crate::specs::Addresses::is_machine))]
 fn is_machine(text: &[u8], name: &str) -> bool
     ensures { result ≡ is_machine text.now name.now }
@@ -59,7 +59,7 @@ fn is_machine(text: &[u8], name: &str) -> bool
     text.starts_with(name.as_bytes()) && is_port(&text[name.len()..])
 }
 
-/// Whether a host is this machine.
+/// Reports whether a host is this machine.
 #[tactic(auto, unfolding(crate::specs::Addresses::is_this_machine))]
 fn is_this_machine(text: &[u8]) -> bool
     ensures { result ≡ is_this_machine text.now }
@@ -67,14 +67,14 @@ fn is_this_machine(text: &[u8]) -> bool
     is_machine(text, "localhost") || is_machine(text, "127.0.0.1") || is_machine(text, "[::1]")
 }
 
-/// Whether a word is the address of a site: `https://` with a host, or `http://` with this machine,
+/// Reports whether a word is the address of a site: `https://` with a host, or `http://` with this machine,
 /// and no path.
 #[tactic(auto, unfolding(crate::specs::Addresses::is_site))]
-pub(crate) fn is_site(word: &[u8]) -> bool
-    ensures { result ≡ is_site word.now }
+pub(crate) fn is_site(token: &[u8]) -> bool
+    ensures { result ≡ is_site token.now }
 {
-    (word.starts_with(b"https://".as_slice()) && is_host(&word[8..]))
-        || (word.starts_with(b"http://".as_slice()) && is_this_machine(&word[7..]))
+    (token.starts_with(b"https://".as_slice()) && is_host(&token[8..]))
+        || (token.starts_with(b"http://".as_slice()) && is_this_machine(&token[7..]))
 }
 
 fn are_zone_bytes(text: &[u8]) -> bool
@@ -90,10 +90,10 @@ fn is_zone_byte(byte: u8) -> bool
     byte.is_ascii_alphanumeric() || byte == b'/' || byte == b'_' || byte == b'+' || byte == b'-'
 }
 
-/// Whether a word has the form of a time zone. Whether there is such a zone, it does not look up.
+/// Reports whether a word has the form of a time zone. Whether there is such a zone, it does not look up.
 #[tactic(auto, unfolding(crate::specs::Addresses::is_zone))]
-pub(crate) fn is_zone(word: &[u8]) -> bool
-    ensures { result ≡ is_zone word.now }
+pub(crate) fn is_zone(token: &[u8]) -> bool
+    ensures { result ≡ is_zone token.now }
 {
-    (!word.is_empty() && word.len() <= 64) && are_zone_bytes(word)
+    (!token.is_empty() && token.len() <= 64) && are_zone_bytes(token)
 }

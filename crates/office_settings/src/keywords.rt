@@ -3,105 +3,105 @@ ghost use Rattle.std.specs.Prelude.{◌≡◌, map};
 ghost use Rattle.std.specs.List.{list_all};
 ghost use Rattle.office_settings.specs.Keywords.{is_act, is_hold_act, is_on_or_off, is_plan_act, is_run_act, is_thing};
 
-use crate::words::is;
+use crate::tokens::is;
 
-/// Whether a word is an act on the plan, the classes or the files.
+/// Reports whether a word is an act on the plan, the classes or the files.
 #[tactic(auto, unfolding(crate::specs::Keywords::is_plan_act))]
-fn is_plan_act(word: &[u8]) -> bool
-    ensures { result ≡ is_plan_act word.now }
+fn is_plan_act(token: &[u8]) -> bool
+    ensures { result ≡ is_plan_act token.now }
 {
-    is(word, "add-schedule")
-        || is(word, "add-class")
-        || is(word, "set-class-schedule")
-        || is(word, "add-aggregation")
-        || is(word, "close-aggregation")
-        || is(word, "add-record")
-        || is(word, "set-record-schedule")
-        || is(word, "reclassify")
+    is(token, "add-schedule")
+        || is(token, "add-class")
+        || is(token, "set-class-schedule")
+        || is(token, "add-aggregation")
+        || is(token, "close-aggregation")
+        || is(token, "add-record")
+        || is(token, "set-record-schedule")
+        || is(token, "reclassify")
 }
 
-/// Whether a word is an act on a hold, or a decision about a record.
+/// Reports whether a word is an act on a hold, or a decision about a record.
 #[tactic(auto, unfolding(crate::specs::Keywords::is_hold_act))]
-fn is_hold_act(word: &[u8]) -> bool
-    ensures { result ≡ is_hold_act word.now }
+fn is_hold_act(token: &[u8]) -> bool
+    ensures { result ≡ is_hold_act token.now }
 {
-    is(word, "place-hold")
-        || is(word, "hold-on")
-        || is(word, "hold-off")
-        || is(word, "lift-hold")
-        || is(word, "confirm")
-        || is(word, "review")
+    is(token, "place-hold")
+        || is(token, "hold-on")
+        || is(token, "hold-off")
+        || is(token, "lift-hold")
+        || is(token, "confirm")
+        || is(token, "review")
 }
 
-/// Whether a word is an act of a run, or one beside the acts of a list.
+/// Reports whether a word is an act of a run, or one beside the acts of a list.
 #[tactic(auto, unfolding(crate::specs::Keywords::is_run_act))]
-fn is_run_act(word: &[u8]) -> bool
-    ensures { result ≡ is_run_act word.now }
+fn is_run_act(token: &[u8]) -> bool
+    ensures { result ≡ is_run_act token.now }
 {
-    is(word, "open-run")
-        || is(word, "run-step")
-        || is(word, "receipt")
-        || is(word, "event")
-        || is(word, "resume")
-        || is(word, "vault")
-        || is(word, "later-day")
+    is(token, "open-run")
+        || is(token, "run-step")
+        || is(token, "receipt")
+        || is(token, "event")
+        || is(token, "resume")
+        || is(token, "vault")
+        || is(token, "later-day")
 }
 
-/// Whether a word is a kind of act, or `resume`, `vault` or `later-day`.
+/// Reports whether a word is a kind of act, or `resume`, `vault` or `later-day`.
 #[tactic(auto, unfolding(crate::specs::Keywords::is_act))]
-fn is_act(word: &[u8]) -> bool
-    ensures { result ≡ is_act word.now }
+fn is_act(token: &[u8]) -> bool
+    ensures { result ≡ is_act token.now }
 {
-    is_plan_act(word) || is_hold_act(word) || is_run_act(word)
+    is_plan_act(token) || is_hold_act(token) || is_run_act(token)
 }
 
-/// Whether a word is a thing to read.
+/// Reports whether a word is a thing to read.
 #[tactic(auto, unfolding(crate::specs::Keywords::is_thing))]
-fn is_thing(word: &[u8]) -> bool
-    ensures { result ≡ is_thing word.now }
+fn is_thing(token: &[u8]) -> bool
+    ensures { result ≡ is_thing token.now }
 {
-    is(word, "records")
-        || is(word, "contents")
-        || is(word, "lists")
-        || is(word, "certificates")
-        || is(word, "catalogue")
-        || is(word, "history")
-        || is(word, "health")
+    is(token, "records")
+        || is(token, "contents")
+        || is(token, "lists")
+        || is(token, "certificates")
+        || is(token, "catalogue")
+        || is(token, "history")
+        || is(token, "health")
 }
 
-/// Whether a word is a rule that is on or off.
+/// Reports whether a word is a rule that is on or off.
 #[tactic(auto, unfolding(crate::specs::Keywords::is_on_or_off))]
-pub(crate) fn is_on_or_off(word: &[u8]) -> bool
-    ensures { result ≡ is_on_or_off word.now }
+pub(crate) fn is_on_or_off(token: &[u8]) -> bool
+    ensures { result ≡ is_on_or_off token.now }
 {
-    is(word, "opener-does-not-carry-out")
-        || is(word, "confirmer-does-not-open")
-        || is(word, "sender-does-not-receive")
-        || is(word, "receiver-does-not-open")
+    is(token, "opener-does-not-carry-out")
+        || is(token, "confirmer-does-not-open")
+        || is(token, "sender-does-not-receive")
+        || is(token, "receiver-does-not-open")
 }
 
-/// Whether each word is a kind of act, or `resume`, `vault` or `later-day`.
-pub(crate) fn are_acts(words: &[&[u8]]) -> bool
-    ensures { result ≡ list_all is_act (map (λ w. w.now) words.now) }
+/// Reports whether each word is a kind of act, or `resume`, `vault` or `later-day`.
+pub(crate) fn are_acts(tokens: &[&[u8]]) -> bool
+    ensures { result ≡ list_all is_act (map (λ w. w.now) tokens.now) }
 {
-    each_is_act(words)
+    each_is_act(tokens)
 }
 
-fn each_is_act(words: &[&[u8]]) -> bool
-    ensures { result ≡ list_all (λ w. is_act w.now) words.now }
+fn each_is_act(tokens: &[&[u8]]) -> bool
+    ensures { result ≡ list_all (λ w. is_act w.now) tokens.now }
 {
-    words.iter().all(|word| is_act(word))
+    tokens.iter().all(|token| is_act(token))
 }
 
-/// Whether each word is a thing to read.
-pub(crate) fn are_things(words: &[&[u8]]) -> bool
-    ensures { result ≡ list_all is_thing (map (λ w. w.now) words.now) }
+/// Reports whether each word is a thing to read.
+pub(crate) fn are_things(tokens: &[&[u8]]) -> bool
+    ensures { result ≡ list_all is_thing (map (λ w. w.now) tokens.now) }
 {
-    each_is_thing(words)
+    each_is_thing(tokens)
 }
 
-fn each_is_thing(words: &[&[u8]]) -> bool
-    ensures { result ≡ list_all (λ w. is_thing w.now) words.now }
+fn each_is_thing(tokens: &[&[u8]]) -> bool
+    ensures { result ≡ list_all (λ w. is_thing w.now) tokens.now }
 {
-    words.iter().all(|word| is_thing(word))
+    tokens.iter().all(|token| is_thing(token))
 }

@@ -4,16 +4,16 @@ ghost use Rattle.office_settings.specs.Numbers.{number_between, only_number};
 
 /// Returns the number that the digits of a word write, if it lies between `least` and `most`.
 #[tactic(auto, unfolding(crate::specs::Numbers::number_between))]
-fn number_between(least: u64, most: u64, word: &[u8]) -> Option<u64>
+fn number_between(least: u64, most: u64, token: &[u8]) -> Option<u64>
     requires { most < 2 ^ 60 }
-    ensures { result ≡ number_between least most word.now }
+    ensures { result ≡ number_between least most token.now }
 {
-    if word.is_empty() {
+    if token.is_empty() {
         return None;
     }
     let mut number = 0u64;
-    for i in 0..word.len() {
-        let digit = word[i];
+    for i in 0..token.len() {
+        let digit = token[i];
         if digit < b'0' || digit > b'9' {
             return None;
         }
@@ -30,13 +30,13 @@ fn number_between(least: u64, most: u64, word: &[u8]) -> Option<u64>
 
 /// Returns the number of the one word there is, if it lies between `least` and `most`.
 #[tactic(auto, unfolding(crate::specs::Numbers::only_number))]
-pub(crate) fn only_number(least: u64, most: u64, words: &[&[u8]]) -> Option<u64>
+pub(crate) fn only_number(least: u64, most: u64, tokens: &[&[u8]]) -> Option<u64>
     requires { most < 2 ^ 60 }
-    ensures { result ≡ only_number least most (map (λ w. w.now) words.now) }
+    ensures { result ≡ only_number least most (map (λ w. w.now) tokens.now) }
 {
-    match words {
+    match tokens {
         [] => None,
-        [word] => number_between(least, most, word),
+        [token] => number_between(least, most, token),
         [_, _, ..] => None,
     }
 }

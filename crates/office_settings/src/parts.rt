@@ -5,7 +5,7 @@ ghost use Rattle.office_settings.specs.Statements.{is_condition, parted};
 ghost use Rattle.office_settings.specs.Views.{parts_read};
 
 use crate::Wrong;
-use crate::words::is;
+use crate::tokens::is;
 
 /// The words before a mark and those after it.
 #[derive(Clone, Copy)]
@@ -15,28 +15,28 @@ pub(crate) struct Parts<'a> {
 }
 
 /// Returns the place of the first word that is the mark.
-fn mark_place(mark: &str, words: &[&[u8]]) -> Option<usize>
-    ensures { result ≡ position (λ word. bytes_eq word.now mark.now) words.now }
+fn mark_place(mark: &str, tokens: &[&[u8]]) -> Option<usize>
+    ensures { result ≡ position (λ token. bytes_eq token.now mark.now) tokens.now }
 {
-    words.iter().position(|word| is(word, mark))
+    tokens.iter().position(|token| is(token, mark))
 }
 
 /// Parts words at a mark, behind which at least one word follows. Without the mark all words come
 /// before it.
 #[tactic(auto, unfolding(crate::specs::Statements::parted))]
-pub(crate) fn parted<'a>(mark: &str, words: &'a [&'a [u8]]) -> Result<Parts<'a>, Wrong>
-    ensures { parts_read result ≡ parted mark.now (map (λ w. w.now) words.now) }
+pub(crate) fn parted<'a>(mark: &str, tokens: &'a [&'a [u8]]) -> Result<Parts<'a>, Wrong>
+    ensures { parts_read result ≡ parted mark.now (map (λ w. w.now) tokens.now) }
 {
-    match mark_place(mark, words) {
+    match mark_place(mark, tokens) {
         None => Ok(Parts {
-            before: words,
+            before: tokens,
             after: &[],
         }),
         Some(place) => {
-            if place + 1 < words.len() {
-                let (_, after) = words.split_at(place + 1);
+            if place + 1 < tokens.len() {
+                let (_, after) = tokens.split_at(place + 1);
                 Ok(Parts {
-                    before: &words[..place],
+                    before: &tokens[..place],
                     after,
                 })
             } else {
@@ -46,14 +46,14 @@ pub(crate) fn parted<'a>(mark: &str, words: &'a [&'a [u8]]) -> Result<Parts<'a>,
     }
 }
 
-/// Whether the words after `if` are `sent` alone, or there are none.
+/// Reports whether the words after `if` are `sent` alone, or there are none.
 #[tactic(auto, unfolding(crate::specs::Statements::is_condition))]
-pub(crate) fn is_condition(words: &[&[u8]]) -> bool
-    ensures { result ≡ is_condition (map (λ w. w.now) words.now) }
+pub(crate) fn is_condition(tokens: &[&[u8]]) -> bool
+    ensures { result ≡ is_condition (map (λ w. w.now) tokens.now) }
 {
-    match words {
+    match tokens {
         [] => true,
-        [word] => is(word, "sent"),
+        [token] => is(token, "sent"),
         [_, _, ..] => false,
     }
 }

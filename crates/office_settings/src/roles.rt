@@ -6,15 +6,15 @@ ghost use Rattle.office_settings.specs.Views.{read};
 use crate::forms::{are_classes, is_name, is_role};
 use crate::keywords::{are_acts, are_things};
 use crate::parts::{Parts, is_condition, parted};
-use crate::words::is;
+use crate::tokens::is;
 use crate::{IsLine, RoleLine, SignsLine, Statement, Wrong};
 
 /// Reads what a role may do, for which classes.
 #[tactic(auto, unfolding(crate::specs::Statements::may_line))]
-fn may_line<'a>(role: &'a [u8], words: &'a [&'a [u8]]) -> Result<Statement<'a>, Wrong>
-    ensures { read result ≡ may_line role.now (map (λ w. w.now) words.now) }
+fn may_line<'a>(role: &'a [u8], tokens: &'a [&'a [u8]]) -> Result<Statement<'a>, Wrong>
+    ensures { read result ≡ may_line role.now (map (λ w. w.now) tokens.now) }
 {
-    let condition = parted("if", words)?;
+    let condition = parted("if", tokens)?;
     if !is_condition(condition.after) {
         return Err(Wrong::Condition);
     }
@@ -37,10 +37,10 @@ fn may_line<'a>(role: &'a [u8], words: &'a [&'a [u8]]) -> Result<Statement<'a>, 
 
 /// Reads what a role reads, for which classes, and whether only what was sent.
 #[tactic(auto, unfolding(crate::specs::Statements::reads_line))]
-fn reads_line<'a>(role: &'a [u8], words: &'a [&'a [u8]]) -> Result<Statement<'a>, Wrong>
-    ensures { read result ≡ reads_line role.now (map (λ w. w.now) words.now) }
+fn reads_line<'a>(role: &'a [u8], tokens: &'a [&'a [u8]]) -> Result<Statement<'a>, Wrong>
+    ensures { read result ≡ reads_line role.now (map (λ w. w.now) tokens.now) }
 {
-    let condition = parted("if", words)?;
+    let condition = parted("if", tokens)?;
     if !is_condition(condition.after) {
         return Err(Wrong::Condition);
     }
@@ -79,10 +79,10 @@ fn verb_line<'a>(role: &'a [u8], verb: &[u8], rest: &'a [&'a [u8]]) -> Result<St
 
 /// Reads a line about a role.
 #[tactic(auto, unfolding(crate::specs::Statements::role_line))]
-pub(crate) fn role_line<'a>(words: &'a [&'a [u8]]) -> Result<Statement<'a>, Wrong>
-    ensures { read result ≡ role_line (map (λ w. w.now) words.now) }
+pub(crate) fn role_line<'a>(tokens: &'a [&'a [u8]]) -> Result<Statement<'a>, Wrong>
+    ensures { read result ≡ role_line (map (λ w. w.now) tokens.now) }
 {
-    match words {
+    match tokens {
         [] => Err(Wrong::RoleLine),
         [_] => Err(Wrong::RoleLine),
         [role, verb, rest @ ..] => verb_line(role, verb, rest),
@@ -91,10 +91,10 @@ pub(crate) fn role_line<'a>(words: &'a [&'a [u8]]) -> Result<Statement<'a>, Wron
 
 /// Reads which roles a name has, for which classes.
 #[tactic(auto, unfolding(crate::specs::Statements::is_line))]
-fn is_line<'a>(name: &'a [u8], words: &'a [&'a [u8]]) -> Result<Statement<'a>, Wrong>
-    ensures { read result ≡ then_line (parted (codes "in") (map (λ w. w.now) words.now)) (is_line name.now) }
+fn is_line<'a>(name: &'a [u8], tokens: &'a [&'a [u8]]) -> Result<Statement<'a>, Wrong>
+    ensures { read result ≡ then_line (parted (codes "in") (map (λ w. w.now) tokens.now)) (is_line name.now) }
 {
-    let parts = parted("in", words)?;
+    let parts = parted("in", tokens)?;
     if !are_classes(parts.after) {
         return Err(Wrong::Class);
     }
@@ -138,10 +138,10 @@ fn name_verb_line<'a>(
 
 /// Reads a line about a name.
 #[tactic(auto, unfolding(crate::specs::Statements::name_line))]
-pub(crate) fn name_line<'a>(words: &'a [&'a [u8]]) -> Result<Statement<'a>, Wrong>
-    ensures { read result ≡ name_line (map (λ w. w.now) words.now) }
+pub(crate) fn name_line<'a>(tokens: &'a [&'a [u8]]) -> Result<Statement<'a>, Wrong>
+    ensures { read result ≡ name_line (map (λ w. w.now) tokens.now) }
 {
-    match words {
+    match tokens {
         [] => Err(Wrong::NameLine),
         [_] => Err(Wrong::NameLine),
         [name, verb, rest @ ..] => name_verb_line(name, verb, rest),

@@ -8,7 +8,7 @@ use crate::addresses::{is_site, is_zone};
 use crate::keywords::{are_acts, is_on_or_off};
 use crate::numbers::only_number;
 use crate::roles::{name_line, role_line};
-use crate::words::is;
+use crate::tokens::is;
 
 /// What a role may do or read, and for which classes: without any, for everything.
 #[derive(Clone, Copy)]
@@ -62,7 +62,7 @@ pub enum Statement<'a> {
     ContentDays(u64),
     /// How many megabytes of the disk filings leave free.
     FreeMegabytes(u64),
-    /// Whether the journal has a line for each reading that was answered.
+    /// Reports whether the journal has a line for each reading that was answered.
     JournalsReadings(bool),
     /// The address of the site.
     Site(&'a [u8]),
@@ -72,56 +72,56 @@ pub enum Statement<'a> {
 
 /// Reads what follows the word `rule`: its first word, and the rest.
 #[tactic(auto, unfolding(crate::specs::Statements::rule_line))]
-fn rule_kind<'a>(word: &'a [u8], rest: &'a [&'a [u8]]) -> Result<Statement<'a>, Wrong>
-    ensures { read result ≡ rule_line (word.now ∷ map (λ w. w.now) rest.now) }
+fn rule_kind<'a>(token: &'a [u8], rest: &'a [&'a [u8]]) -> Result<Statement<'a>, Wrong>
+    ensures { read result ≡ rule_line (token.now ∷ map (λ w. w.now) rest.now) }
 {
-    if is(word, "changer-does-not-open") {
+    if is(token, "changer-does-not-open") {
         return match only_number(1, 3_650, rest) {
             Some(days) => Ok(Statement::Changer(days)),
             None => Err(Wrong::Number),
         };
     }
-    if is(word, "reason-for") {
+    if is(token, "reason-for") {
         if rest.is_empty() || !are_acts(rest) {
             return Err(Wrong::Act);
         }
         return Ok(Statement::ReasonFor(rest));
     }
-    if is_on_or_off(word) && rest.is_empty() {
-        return Ok(Statement::Rule(word));
+    if is_on_or_off(token) && rest.is_empty() {
+        return Ok(Statement::Rule(token));
     }
     Err(Wrong::Rule)
 }
 
 /// Reads a line `rule`.
 #[tactic(auto, unfolding(crate::specs::Statements::rule_line))]
-fn rule_line<'a>(words: &'a [&'a [u8]]) -> Result<Statement<'a>, Wrong>
-    ensures { read result ≡ rule_line (map (λ w. w.now) words.now) }
+fn rule_line<'a>(tokens: &'a [&'a [u8]]) -> Result<Statement<'a>, Wrong>
+    ensures { read result ≡ rule_line (map (λ w. w.now) tokens.now) }
 {
-    match words {
+    match tokens {
         [] => Err(Wrong::Rule),
-        [word, rest @ ..] => rule_kind(word, rest),
+        [token, rest @ ..] => rule_kind(token, rest),
     }
 }
 
 /// Reads what follows the word `limit`: its first word, and the rest.
 #[tactic(auto, unfolding(crate::specs::Statements::limit_line))]
-fn limit_kind<'a>(word: &'a [u8], rest: &'a [&'a [u8]]) -> Result<Statement<'a>, Wrong>
-    ensures { read result ≡ limit_line (word.now ∷ map (λ w. w.now) rest.now) }
+fn limit_kind<'a>(token: &'a [u8], rest: &'a [&'a [u8]]) -> Result<Statement<'a>, Wrong>
+    ensures { read result ≡ limit_line (token.now ∷ map (λ w. w.now) rest.now) }
 {
-    if is(word, "requests") {
+    if is(token, "requests") {
         return match only_number(1, 1_000, rest) {
             Some(count) => Ok(Statement::Requests(count)),
             None => Err(Wrong::Number),
         };
     }
-    if is(word, "lists") {
+    if is(token, "lists") {
         return match only_number(1, 100, rest) {
             Some(count) => Ok(Statement::Lists(count)),
             None => Err(Wrong::Number),
         };
     }
-    if is(word, "journal-bytes") {
+    if is(token, "journal-bytes") {
         return match only_number(10_000, 1_000_000_000_000, rest) {
             Some(count) => Ok(Statement::JournalBytes(count)),
             None => Err(Wrong::Number),
@@ -132,27 +132,27 @@ fn limit_kind<'a>(word: &'a [u8], rest: &'a [&'a [u8]]) -> Result<Statement<'a>,
 
 /// Reads a line `limit`.
 #[tactic(auto, unfolding(crate::specs::Statements::limit_line))]
-fn limit_line<'a>(words: &'a [&'a [u8]]) -> Result<Statement<'a>, Wrong>
-    ensures { read result ≡ limit_line (map (λ w. w.now) words.now) }
+fn limit_line<'a>(tokens: &'a [&'a [u8]]) -> Result<Statement<'a>, Wrong>
+    ensures { read result ≡ limit_line (map (λ w. w.now) tokens.now) }
 {
-    match words {
+    match tokens {
         [] => Err(Wrong::Limit),
-        [word, rest @ ..] => limit_kind(word, rest),
+        [token, rest @ ..] => limit_kind(token, rest),
     }
 }
 
 /// Reads what follows the word `keep`: its first word, and the rest.
 #[tactic(auto, unfolding(crate::specs::Statements::keep_line))]
-fn keep_kind<'a>(word: &'a [u8], rest: &'a [&'a [u8]]) -> Result<Statement<'a>, Wrong>
-    ensures { read result ≡ keep_line (word.now ∷ map (λ w. w.now) rest.now) }
+fn keep_kind<'a>(token: &'a [u8], rest: &'a [&'a [u8]]) -> Result<Statement<'a>, Wrong>
+    ensures { read result ≡ keep_line (token.now ∷ map (λ w. w.now) rest.now) }
 {
-    if is(word, "contents") {
+    if is(token, "contents") {
         return match only_number(0, 366, rest) {
             Some(days) => Ok(Statement::ContentDays(days)),
             None => Err(Wrong::Number),
         };
     }
-    if is(word, "free") {
+    if is(token, "free") {
         return match only_number(0, 1_000_000, rest) {
             Some(count) => Ok(Statement::FreeMegabytes(count)),
             None => Err(Wrong::Number),
@@ -163,25 +163,25 @@ fn keep_kind<'a>(word: &'a [u8], rest: &'a [&'a [u8]]) -> Result<Statement<'a>, 
 
 /// Reads a line `keep`.
 #[tactic(auto, unfolding(crate::specs::Statements::keep_line))]
-fn keep_line<'a>(words: &'a [&'a [u8]]) -> Result<Statement<'a>, Wrong>
-    ensures { read result ≡ keep_line (map (λ w. w.now) words.now) }
+fn keep_line<'a>(tokens: &'a [&'a [u8]]) -> Result<Statement<'a>, Wrong>
+    ensures { read result ≡ keep_line (map (λ w. w.now) tokens.now) }
 {
-    match words {
+    match tokens {
         [] => Err(Wrong::Keep),
-        [word, rest @ ..] => keep_kind(word, rest),
+        [token, rest @ ..] => keep_kind(token, rest),
     }
 }
 
 #[tactic(auto, unfolding(crate::specs::Statements::journal_line))]
-fn journal_line<'a>(words: &'a [&'a [u8]]) -> Result<Statement<'a>, Wrong>
-    ensures { read result ≡ journal_line (map (λ w. w.now) words.now) }
+fn journal_line<'a>(tokens: &'a [&'a [u8]]) -> Result<Statement<'a>, Wrong>
+    ensures { read result ≡ journal_line (map (λ w. w.now) tokens.now) }
 {
-    match words {
+    match tokens {
         [] => Err(Wrong::Journal),
-        [word] => {
-            if is(word, "readings") {
+        [token] => {
+            if is(token, "readings") {
                 Ok(Statement::JournalsReadings(true))
-            } else if is(word, "acts") {
+            } else if is(token, "acts") {
                 Ok(Statement::JournalsReadings(false))
             } else {
                 Err(Wrong::Journal)
@@ -192,14 +192,14 @@ fn journal_line<'a>(words: &'a [&'a [u8]]) -> Result<Statement<'a>, Wrong>
 }
 
 #[tactic(auto, unfolding(crate::specs::Statements::zone_line))]
-fn zone_line<'a>(words: &'a [&'a [u8]]) -> Result<Statement<'a>, Wrong>
-    ensures { read result ≡ zone_line (map (λ w. w.now) words.now) }
+fn zone_line<'a>(tokens: &'a [&'a [u8]]) -> Result<Statement<'a>, Wrong>
+    ensures { read result ≡ zone_line (map (λ w. w.now) tokens.now) }
 {
-    match words {
+    match tokens {
         [] => Err(Wrong::Zone),
-        [word] => {
-            if is_zone(word) {
-                Ok(Statement::Zone(word))
+        [token] => {
+            if is_zone(token) {
+                Ok(Statement::Zone(token))
             } else {
                 Err(Wrong::Zone)
             }
@@ -209,14 +209,14 @@ fn zone_line<'a>(words: &'a [&'a [u8]]) -> Result<Statement<'a>, Wrong>
 }
 
 #[tactic(auto, unfolding(crate::specs::Statements::site_line))]
-fn site_line<'a>(words: &'a [&'a [u8]]) -> Result<Statement<'a>, Wrong>
-    ensures { read result ≡ site_line (map (λ w. w.now) words.now) }
+fn site_line<'a>(tokens: &'a [&'a [u8]]) -> Result<Statement<'a>, Wrong>
+    ensures { read result ≡ site_line (map (λ w. w.now) tokens.now) }
 {
-    match words {
+    match tokens {
         [] => Err(Wrong::Site),
-        [word] => {
-            if is_site(word) {
-                Ok(Statement::Site(word))
+        [token] => {
+            if is_site(token) {
+                Ok(Statement::Site(token))
             } else {
                 Err(Wrong::Site)
             }
@@ -227,24 +227,24 @@ fn site_line<'a>(words: &'a [&'a [u8]]) -> Result<Statement<'a>, Wrong>
 
 /// Reads the first word of a line, and the rest.
 #[tactic(auto, unfolding(crate::specs::Statements::statement_of))]
-fn kind_line<'a>(word: &[u8], rest: &'a [&'a [u8]]) -> Result<Statement<'a>, Wrong>
-    ensures { read result ≡ statement_of (word.now ∷ map (λ w. w.now) rest.now) }
+fn kind_line<'a>(token: &[u8], rest: &'a [&'a [u8]]) -> Result<Statement<'a>, Wrong>
+    ensures { read result ≡ statement_of (token.now ∷ map (λ w. w.now) rest.now) }
 {
-    if is(word, "role") {
+    if is(token, "role") {
         role_line(rest)
-    } else if is(word, "name") {
+    } else if is(token, "name") {
         name_line(rest)
-    } else if is(word, "rule") {
+    } else if is(token, "rule") {
         rule_line(rest)
-    } else if is(word, "limit") {
+    } else if is(token, "limit") {
         limit_line(rest)
-    } else if is(word, "keep") {
+    } else if is(token, "keep") {
         keep_line(rest)
-    } else if is(word, "journal") {
+    } else if is(token, "journal") {
         journal_line(rest)
-    } else if is(word, "site") {
+    } else if is(token, "site") {
         site_line(rest)
-    } else if is(word, "zone") {
+    } else if is(token, "zone") {
         zone_line(rest)
     } else {
         Err(Wrong::Beginning)
@@ -255,12 +255,12 @@ impl<'a> Statement<'a> {
     /// Reads the words of a line as a statement; the error is the first reason why they are none.
     /// It takes no memory.
     #[tactic(auto, unfolding(crate::specs::Statements::statement_of))]
-    pub fn read(words: &'a [&'a [u8]]) -> Result<Statement<'a>, Wrong>
-        ensures { read result ≡ statement_of (map (λ w. w.now) words.now) }
+    pub fn read(tokens: &'a [&'a [u8]]) -> Result<Statement<'a>, Wrong>
+        ensures { read result ≡ statement_of (map (λ w. w.now) tokens.now) }
     {
-        match words {
+        match tokens {
             [] => Err(Wrong::Beginning),
-            [word, rest @ ..] => kind_line(word, rest),
+            [token, rest @ ..] => kind_line(token, rest),
         }
     }
 }

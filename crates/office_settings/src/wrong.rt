@@ -1,8 +1,8 @@
-//! Why a line of the settings is no statement.
+//! Why settings are wrong.
 ghost use Rattle.std.specs.Prelude.{◌≡◌};
 ghost use Rattle.office_settings.specs.Reasons.{reason};
 
-/// Why words are no statement.
+/// Why a line, or a whole file, is wrong.
 #[derive(Clone, Copy, PartialEq, Eq, Debug)]
 pub enum Wrong {
     /// No statement begins with the first word.
@@ -41,6 +41,29 @@ pub enum Wrong {
     Site,
     /// The time zone has not the form of one.
     Zone,
+    /// The line is no UTF-8.
+    NotUtf8,
+    /// A line above sets this already.
+    SetTwice,
+    /// A text that is signed is longer than 200 bytes, or has a character that no page shows.
+    SignedText,
+    /// The name, or its text, looks like another name of a line above, or like the text of one.
+    Alike,
+    /// A name has a role that no line describes.
+    UnknownRole,
+    /// A name signs that has no role.
+    NoRole,
+    /// No line names the site.
+    NoSite,
+    /// No line names the time zone.
+    NoZone,
+}
+
+/// Why a file is refused: the line that is wrong, from 1 on, or none if something is missing.
+#[derive(Clone, Copy, PartialEq, Eq, Debug)]
+pub struct Fault {
+    pub line: Option<usize>,
+    pub wrong: Wrong,
 }
 
 impl Wrong {
@@ -70,6 +93,15 @@ impl Wrong {
             Wrong::Site =>
                 "a site is an address such as https://records.city.example, without a path",
             Wrong::Zone => "a time zone is a word such as Europe/Berlin",
+            Wrong::NotUtf8 => "this is no UTF-8",
+            Wrong::SetTwice => "this is set already above",
+            Wrong::SignedText =>
+                "a text that is signed has at most 200 bytes, all of them printable",
+            Wrong::Alike => "this looks like another name of a line above, or like its text",
+            Wrong::UnknownRole => "no line says what one of these roles may do",
+            Wrong::NoRole => "this name signs, but no line says which role it is",
+            Wrong::NoSite => "there is no line 'site'",
+            Wrong::NoZone => "there is no line 'zone'",
         }
     }
 }

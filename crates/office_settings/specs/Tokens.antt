@@ -9,14 +9,14 @@ is_blank b = (b == 32) || (b == 9) || (b == 13)
 -- a word that has a byte comes before the others
 abbrev pub closed : List ℕ → List (List ℕ) → List (List ℕ)
 closed [] others = others
-closed (b ∷ word) others = (b ∷ word) ∷ others
+closed (b ∷ token) others = (b ∷ token) ∷ others
 
 -- the words of a text, the first of which has begun with these bytes
-abbrev pub words_from : List ℕ → List ℕ → List (List ℕ)
-words_from word [] = closed word []
-words_from word (b ∷ rest) =
-    if is_blank b then closed word (words_from [] rest) else words_from (word ++ b ∷ []) rest
+abbrev pub tokens_from : List ℕ → List ℕ → List (List ℕ)
+tokens_from token [] = closed token []
+tokens_from token (b ∷ rest) =
+    if is_blank b then closed token (tokens_from [] rest) else tokens_from (token ++ b ∷ []) rest
 
 -- the words of a line: what follows # is a remark
-abbrev pub words : List ℕ → List (List ℕ)
-words line = words_from [] (before_first (λ b. b == 35) line)
+abbrev pub tokens_in : List ℕ → List (List ℕ)
+tokens_in line = tokens_from [] (before_first (λ b. b == 35) line)
