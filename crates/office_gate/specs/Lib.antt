@@ -1,5 +1,8 @@
 pub mod Answering
+pub mod Exchanges
 pub mod Paths
 pub mod Performing
 pub mod Replies
+pub mod SigningIn
+pub mod Stated
 pub mod Visitors

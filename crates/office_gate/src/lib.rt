@@ -4,12 +4,18 @@
 //! [`answer_for`] is `office_wire::answer` for a visitor: acts are performed by a
 //! `office_guard::Keeper`, so that each is judged in the office in which it is then done, and what a
 //! path asks for is denied or served. What is denied is answered with status 403 and the reason.
+//! [`serve_visit`] reads one request with what a proxy states, the secret that it shares with the
+//! office, the name that signed in and the day, as [`Gate::visitor`] reads these, and answers it.
 #![tactic(auto)]
 
 mod acts;
 mod answers;
 mod denials;
+mod exchange;
+mod gate;
 mod readings;
 
 pub use answers::answer_for;
 pub use denials::{denial_reply, denied_reply, token_reply};
+pub use exchange::{answer_visit, serve_visit};
+pub use gate::Gate;
