@@ -65,10 +65,10 @@ def mutants(seed: int, count: int) -> list[bytes]:
     example = (HERE / "../../service/gate/city.access").read_bytes()
     lines = example.split(b"\n")
     tokens = sorted({token for line in lines for token in line.split(b"#")[0].split()})
-    tokens += [b"in", b"if", b"sent", b"*", b"FIN*", b"**", b"A-1", b"is", b"signs", b"", b"later-day", b"vault", b"Legal",
-               b"\xc3\x84", b"\xe2\x84\xaa", b"\xff", b"\xc2\xa0", b"\xe2\x80\x8b", b"\xd0\xb0", b"0", b"3651", b"00030",
-               b"99999999999999999999999", b"http://localhost:80", b"http://127.0.0.1", b"http://example.org", b"x" * 65,
-               b"name", b"role", b"rule", b"manager", b"Manager", b"REGISTRAR", b"R. Halloran, records manager"]
+    tokens += [b"in", b"if", b"sent", b"*", b"FIN*", b"**", b"A-1", b"is", b"signs", b"", b"later-day", b"vault"]
+    tokens += [b"\xc3\x84", b"\xe2\x84\xaa", b"\xff", b"\xc2\xa0", b"\xe2\x80\x8b", b"\xd0\xb0", b"0", b"3651"]
+    tokens += [b"00030", b"9" * 23, b"http://localhost:80", b"http://127.0.0.1", b"http://example.org", b"x" * 65]
+    tokens += [b"Legal", b"name", b"role", b"rule", b"manager", b"Manager", b"REGISTRAR", b"R. Halloran"]
     more = [b"name * is auditor", b"name * is auditor in PER*", b"name legal is auditor in FIN* A-1",
             b"name manager is legal", b"name auditor signs Auditor", b"name zoe signs Zoe", b"name zoe is nobody",
             b"role legal may confirm in BLDG* FIN*", b"role x may vault", b"name zoe is x x legal", b"limit lists 3",
@@ -114,7 +114,7 @@ def by_program(text: str) -> list[list[str]]:
             files.append([])
         else:
             files[-1].append(line)
-    return [once(it) for it in files]
+    return [once(lines) for lines in files]
 
 
 def once(lines: list[str]) -> list[str]:
@@ -136,12 +136,19 @@ def kind(gate: list[str], program: list[str]) -> str:
     if not refused and not denied:
         return "OTHER RIGHTS"
     if refused and not denied:
-        return f"only the gate refuses: {gate[0].split(None, 2)[2][:60]}"
+        return f"only the gate refuses: {gate[0].split(None, 2)[2][:120]}"
     if not refused:
         return f"only the program refuses: {program[0].split(None, 2)[2][:60]}"
     if gate[0].split()[1] == program[0].split()[1]:
         return "same line"
     return f"another line: gate {gate[0].split(None, 2)[2][-60:]} | program {program[0].split(None, 2)[2][:60]}"
+
+
+def is_wrong(name: str) -> bool:
+    """Whether no file may differ so: only a zone that nobody knows, and letters of two scripts, are the gate's alone."""
+    if name.startswith("only the gate refuses"):
+        return "time zone" not in name and "letters of" not in name
+    return name == "OTHER RIGHTS"
 
 
 def main() -> int:
@@ -154,9 +161,9 @@ def main() -> int:
     kinds: dict[str, list[int]] = {}
     for number, program in enumerate(by_program(printed.read_text(errors="replace"))):
         kinds.setdefault(kind(once(by_gate(folder / str(number))), program), []).append(number)
-    for name, numbers in sorted(kinds.items(), key=lambda it: -len(it[1])):
+    for name, numbers in sorted(kinds.items(), key=lambda pair: -len(pair[1])):
         print(f"{len(numbers)} {name}, as file {numbers[0]}")
-    return 1 if "OTHER RIGHTS" in kinds else 0
+    return 1 if any(is_wrong(name) for name in kinds) else 0
 
 
 sys.exit(main())
