@@ -87,6 +87,7 @@ TRIALS = [
     Trial("tests/runner_trial", "trials are run, judged and skipped as they should be", "", "", 1),
     Trial("tests/refused_allocations/run", "each allocation of an act or a reading refused: nothing changes", "memory",
           "kit"),
+    Trial("tests/settings/run", "the proved reader and the gate take changed settings alike", "words service", "kit", 2),
     Trial("tests/full_limits", "each limit is reached, and the next thing refused", "memory tables", "program", 1),
     Trial("tests/other_tables", "other tables in an office's file stay as they are", "tables", "program", 4),
     Trial("tests/disks", "all commands do the same on each disk of OFFICE_DISK", "words tables", "program strace", 1),

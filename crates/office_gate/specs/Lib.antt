@@ -3,6 +3,5 @@ pub mod Exchanges
 pub mod Paths
 pub mod Performing
 pub mod Replies
-pub mod SigningIn
 pub mod Stated
 pub mod Visitors

@@ -5,10 +5,10 @@ use Rattle.std.specs.Option.{option_and_then}
 use Rattle.office_access.specs.Settings.{Settings}
 use Rattle.office_access.specs.declared.person.SignIn.{SignIn}
 use Rattle.office_days.specs.Texts.{day_named}
-use Rattle.office_gate.specs.SigningIn.{sign_in_as}
 use Rattle.office_gate.specs.Visitors.{Visitor}
 use Rattle.office_gate.specs.declared.gate.Gate.{Gate}
 use Rattle.office_http.specs.Fields.{Values, found_named, many, missing, one}
+use Rattle.office_policy.specs.SignIns.{sign_in_as}
 use Rattle.office_records.specs.TextForms.{text_named}
 use Rattle.office_settings.specs.Looks.{text_in}
 

@@ -1,7 +1,6 @@
 //! Who asks, by what the proxy states.
 ghost use Rattle.std.specs.Prelude.{◌≡◌, IfOk};
 ghost use Rattle.std.specs.Option.{option_map};
-ghost use Rattle.office_gate.specs.SigningIn.{sign_in_as};
 ghost use Rattle.office_gate.specs.Stated.{has_value, stated_day, stated_name, stated_text, visitor_stated};
 ghost use Rattle.office_gate.specs.Visitors.{visitor_of};
 ghost use Rattle.office_http.specs.Proxies.{values_of};
@@ -11,8 +10,9 @@ use office_base::Memory;
 use office_days::Day;
 use office_guard::Keeper;
 use office_http::{FieldValue, ProxyLines};
+use office_policy::sign_in;
 use office_records::Text;
-use office_settings::{look_of, text_in};
+use office_settings::text_in;
 use std::alloc::Global;
 
 /// The settings of an office at a moment, and the secret that the office shares with its proxy.
@@ -33,25 +33,13 @@ fn stated_text(value: &FieldValue) -> Option<&str>
     }
 }
 
-/// Makes the sign-in of a name, with its look. Returns `None` if the look is longer than a text:
-/// then no name of the settings looks so, and the name has no rights.
-fn sign_in(alloc: Global, name: Text) -> Result<Option<SignIn>, Memory>
-    ensures { IfOk result (λ sign_in. sign_in ≡ sign_in_as name) }
-{
-    let look = look_of(alloc, name.text())?;
-    match Text::read(alloc, look.as_str())? {
-        Some(look) => Ok(Some(SignIn { name, look })),
-        None => Ok(None),
-    }
-}
-
 /// The name that one line states, if it is a text.
 fn stated_name(alloc: Global, value: &FieldValue) -> Result<Option<SignIn>, Memory>
     ensures { IfOk result (λ name. name ≡ stated_name (values_of value.now)) }
 {
     match stated_text(value) {
         Some(text) => match Text::read(alloc, text)? {
-            Some(name) => sign_in(alloc, name),
+            Some(name) => sign_in(alloc, &name),
             None => Ok(None),
         },
         None => Ok(None),

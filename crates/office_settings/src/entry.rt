@@ -97,8 +97,9 @@ impl<'a> Entry<'a> {
             || same_text(statement.signer(), self.statement.signer())
     }
 
-    /// Reports whether the statement makes the setting of that number.
-    pub(crate) fn makes_setting(&self, number: u8) -> bool
+    /// Reports whether the statement makes the setting of that number: 0 is the site, 1 the time
+    /// zone, and 2 to 7 are the limits in the order of `docs/ACCESS.md`.
+    pub fn makes_setting(&self, number: u8) -> bool
         ensures { result ≡ same_setting (setting_of self.now.line) (Some number) }
     {
         same_setting(self.statement.setting(), Some(number))

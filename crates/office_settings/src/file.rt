@@ -10,11 +10,11 @@ use crate::{Entry, SettingsError, SourceLine, Statement, Wrong};
 use std::alloc::Global;
 
 /// Appends the statement of a line, if it has one. After an error the entries are of no use.
-fn push_line<'a>(
+fn push_line<'b, 'a>(
     alloc: Global,
-    entries: &mut Vec<Entry<'a>>,
+    entries: &mut Vec<Entry<'b>>,
     number: usize,
-    line: &'a SourceLine<'a>,
+    line: &'b SourceLine<'a>,
 ) -> Result<(), SettingsError>
     ensures { IsAppended result entries.new.items (with_line entries.old.items number line.now) }
 {
@@ -32,10 +32,10 @@ fn push_line<'a>(
 }
 
 /// Reads lines one after the other, up to the first that is wrong.
-fn read_lines<'a>(
+fn read_lines<'b, 'a>(
     alloc: Global,
-    lines: &'a [SourceLine<'a>],
-    entries: &mut Vec<Entry<'a>>,
+    lines: &'b [SourceLine<'a>],
+    entries: &mut Vec<Entry<'b>>,
 ) -> Result<(), SettingsError>
     ensures { IsAppended result entries.new.items (entries_from entries.old.items 1 lines.now) }
 {
@@ -132,10 +132,10 @@ fn check_whole(entries: &[Entry]) -> Result<(), SettingsError>
 /// the whole lacks: the site, the time zone, a role that a name has, or the roles of a name that
 /// signs.
 #[tactic(auto, unfolding(crate::specs::Files::entries_of))]
-pub fn read_entries<'a>(
+pub fn read_entries<'b, 'a>(
     alloc: Global,
-    lines: &'a [SourceLine<'a>],
-) -> Result<Vec<Entry<'a>>, SettingsError>
+    lines: &'b [SourceLine<'a>],
+) -> Result<Vec<Entry<'b>>, SettingsError>
     ensures { IsRead result (λ entries. entries.items) (entries_of lines.now) }
 {
     let mut entries = Vec::new(alloc);

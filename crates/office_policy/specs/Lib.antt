@@ -1,0 +1,10 @@
+pub mod Classes
+pub mod Granted
+pub mod Limits
+pub mod People
+pub mod Policies
+pub mod Powers
+pub mod Readings
+pub mod Rules
+pub mod Scopes
+pub mod SignIns
