@@ -1,6 +1,12 @@
 pub mod Digests
 pub mod Fixed
+pub mod Joined
 pub mod Nested
+pub mod Noted
 pub mod Parts
+pub mod Put
+pub mod Scanned
+pub mod ShownText
 pub mod Split
+pub mod Tokens
 pub mod Written

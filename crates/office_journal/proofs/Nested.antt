@@ -1,5 +1,5 @@
 -- The bytes of a line that are read so far, and the rest of them.
-use Rattle.std.proofs.Common.{◌≡◌, ◌≢◌, ◌∙◌, ◌+◌, ◌<◌, ◌≤◌, ◌==◌, zero, ℕ, List, [], ◌∷◌, length, get_or, drop, cond, true, false, Bool, refl, sym, ap, arith, add-one, drop-cons}
+use Rattle.std.proofs.Common.{◌≡◌, ◌≢◌, ◌∙◌, ◌+◌, ◌<◌, ◌≤◌, ◌==◌, ℕ, List, ◌∷◌, length, get_or, drop, cond, true, false, Bool, sym, ap, arith, add-one, drop-cons}
 use Rattle.office_journal.specs.Journals.{after_byte, closes, open_once}
 use Rattle.office_journal.specs.declared.nesting.Nesting.{Nesting}
 

@@ -1,19 +1,17 @@
 -- The pieces of a text, one after another, and the lines that were checked.
-use Rattle.std.proofs.Common.{◌≡◌, ◌≢◌, ◌∙◌, ◌+◌, ◌<◌, ◌≤◌, ◌==◌, not, nat_lt, ◌^◌, ◌-◌, ℕ, zero, suc, List, [], ◌∷◌, ◌++◌, length, take, drop, position, cond, Bool, true, false, Option, Some, None, Result, Ok, Err, refl, sym, ap, arith, append_assoc, add-one, subst, length-drop}
+use Rattle.std.proofs.Common.{◌≡◌, ◌≢◌, ◌∙◌, ◌+◌, ◌<◌, ◌≤◌, ◌==◌, not, nat_lt, ◌^◌, ◌-◌, ℕ, suc, List, [], ◌∷◌, ◌++◌, length, take, drop, position, cond, Bool, true, false, Option, Some, None, Result, Ok, Err, refl, sym, ap, arith, append_assoc, subst, length-drop}
 use Rattle.std.specs.List.{All, flat_map, prefix_len}
 use Rattle.std.proofs.lemmas.Grind.{flat_map-append}
 use Rattle.std.proofs.lemmas.List.Elements.{All-nil, All-cons}
 use Rattle.office_journal.specs.declared.head.Head.{Head}
-use Rattle.office_journal.specs.declared.check.Checked.{Checked}
 use Rattle.office_journal.specs.declared.wrong.Wrong.{Wrong}
-use Rattle.office_journal.specs.declared.wrong.WrongLine.{WrongLine}
 use Rattle.std.specs.Prelude.{codes}
 use Rattle.std.specs.Fmt.{decimal}
 use Rattle.hex.specs.Hex.{encode_lower}
 use Rattle.office_journal.specs.Chain.{Follows, LeadTo}
-use Rattle.office_journal.specs.Lines.{head_after, opening}
-use Rattle.office_journal.specs.Journals.{IsJournal, begun, checked, checked_from, checked_step, follow, is_whole, linked, numbered, opened, pieces, rest_after, with_first}
-use Rattle.office_journal.specs.declared.wrong.Wrong.TheVariants.{NoLine, OtherBefore, OtherNumber}
+use Rattle.office_journal.specs.Lines.{head_after}
+use Rattle.office_journal.specs.Journals.{IsJournal, begun, checked_from, checked_step, follow, is_whole, linked, numbered, pieces, rest_after, with_first}
+use Rattle.office_journal.specs.declared.wrong.Wrong.TheVariants.{NoLine, OtherNumber}
 use Rattle.office_journal.proofs.Parts.{rest_after-some}
 
 -- ---- pieces by the first line feed

@@ -1,6 +1,6 @@
-use Rattle.std.proofs.Common.{◌≡◌, ◌∙◌, ◌+◌, ◌==◌, ap, sym, subst, position, arith, Some, None, List, ℕ, length, take, ◌≤◌}
+use Rattle.std.proofs.Common.{◌∙◌, ◌+◌, sym, subst, arith, List, ℕ}
 use Rattle.office_journal.specs.Journals.{checked}
-use Rattle.office_journal.proofs.Split.{AreChecked, EndsAt, IsLast, all_checked, ends_at, err_checked, is_journal, is_last, none_checked, nothing_checked, nothing_journal, one_checked}
+use Rattle.office_journal.proofs.Split.{AreChecked, EndsAt, all_checked, ends_at, err_checked, is_journal, is_last, none_checked, nothing_checked, nothing_journal, one_checked}
 use Rattle.office_journal.proofs.check.check_journal.Goals as goal
 
 pub lines-init : goal.lines-init

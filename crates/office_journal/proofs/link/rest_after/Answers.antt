@@ -1,4 +1,4 @@
-use Rattle.std.proofs.Common.{◌≡◌, ◌∙◌, ap, sym, Some}
+use Rattle.std.proofs.Common.{◌∙◌, ap, sym, Some}
 use Rattle.office_journal.proofs.Parts.{not_stripped, stripped}
 use Rattle.office_journal.proofs.link.rest_after.Goals as goal
 
