@@ -33,7 +33,7 @@ PARTS = {
     "words": "all other crates",
     "service": "service, docs/SERVICE.md, docs/BACKUP.md, docs/WATCHING.md",
     "pages": "README.md and docs",
-    "web": "web, docs/openapi.yaml, docs/ERRORS.md",
+    "web": "page, docs/openapi.yaml, docs/ERRORS.md",
     "vault": "service/vault, docs/VAULT.md",
     "package": "packaging, service, tools, CHANGELOG.md",
     "replicas": "replicas, service/replicas, docs/REPLICAS.md",

@@ -26,21 +26,23 @@ MACHINE = (".service", ".timer", ".conf", ".nft", "office-acts", "city.json", "o
 
 
 class Listed(NamedTuple):
-    """A line of the list: a file or a folder of the repository, and where it goes."""
+    """A line of the list: a file or a folder of the repository, the folder that it goes to, and its name there."""
 
     source: pathlib.Path
     folder: str
+    name: str
 
 
 def listed(of: str = "files") -> list[Listed]:
     """The lines of packaging/files, or of another list there."""
     lines = [line.split() for line in (HERE / of).read_text().split("\n") if line and not line.startswith("#")]
-    return [Listed(TOP / source, folder.strip("/")) for source, folder in lines]
+    return [Listed(TOP / source, folder.strip("/"), name[0] if name else pathlib.PurePath(source).name)
+            for source, folder, *name in lines]
 
 
 def units(of: str = "files") -> list[str]:
     """What systemd may have running of the package's units, as patterns."""
-    names = [it.source.name for it in listed(of) if it.folder == UNITS and not it.source.is_dir()]
+    names = [it.name for it in listed(of) if it.folder == UNITS and not it.source.is_dir()]
     return sorted(it.replace("@.", "@*.") for it in names)
 
 
@@ -98,7 +100,7 @@ def put_completion(to: pathlib.Path) -> None:
 
 
 def scripts_in(of: str) -> list[str]:
-    return sorted(it.source.name for it in listed(of) if it.folder == "usr/bin")
+    return sorted(it.name for it in listed(of) if it.folder == "usr/bin")
 
 
 def put_manuals(top: pathlib.Path, last: Version, of: str) -> None:
@@ -111,11 +113,11 @@ def put_manuals(top: pathlib.Path, last: Version, of: str) -> None:
 
 def put_listed(top: pathlib.Path, of: str) -> None:
     """The files of a list."""
-    for source, folder in listed(of):
+    for source, folder, name in listed(of):
         if not source.exists():
             fail(f"packaging/{of} names {source.relative_to(TOP)}, which is not there")
         for file in files_below(source):
-            put_file(file, top / folder / file.relative_to(source.parent))
+            put_file(file, top / folder / name / file.relative_to(source))
 
 
 def stage_replicas(top: pathlib.Path, all_versions: list[Version], maintainer: str) -> None:

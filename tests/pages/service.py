@@ -107,7 +107,7 @@ ROWS = [
     Row("systemctl", skip="without systemd"),
     Row("apt-get", skip="the packages are there"),
     Row("mkdir -p /etc/nginx/office"),
-    Row("cp -r web /usr/local/share/office/"),
+    Row("cp -rT page /usr/local/share/office/web"),
     Row("cp service/nginx/http.conf service/nginx/server.conf service/nginx/actors.conf"),
     Row("cp service/nginx/acts.js"),
     Row("addgroup --system office-read"),

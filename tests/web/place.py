@@ -19,7 +19,7 @@ from kit.ports import free_port
 TOP = pathlib.Path(__file__).resolve().parent.parent.parent
 OFFICE = os.environ.get("OFFICE", str(TOP / "office"))
 # the page that is tried; mutants names another one
-WEB = pathlib.Path(os.environ.get("WEB", TOP / "web"))
+WEB = pathlib.Path(os.environ.get("WEB", TOP / "page"))
 NAME, PASSWORD = "registrar", "a long one"
 NGINX = TOP / "service/nginx"
 # in place of Debian's nginx.conf

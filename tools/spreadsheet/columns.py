@@ -10,7 +10,7 @@ from spreadsheet.sheet import NEAR_TOP, Row, Unreadable, letters
 NAMES = ["ref", "title", "originated", "aggregation", "class", "schedule", "content"]
 NEEDED = ["ref", "title", "originated", "aggregation"]
 # Other names that sheets have for them, as `plain` makes them: in English, then in German. The labels of the
-# page in both languages are among them. web/sheet/columns.js has the same, and tests/import/cases tries each.
+# page in both languages are among them. page/sheet/columns.js has the same, and tests/import/cases tries each.
 SYNONYMS: dict[str, list[str]] = {
     "ref": ["reference", "reference no", "reference number", "ref no", "file no", "file number", "record no",
             "aktenzeichen", "az", "geschäftszeichen", "signatur", "kennzeichen"],

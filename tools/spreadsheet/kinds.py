@@ -6,7 +6,7 @@ from collections.abc import Mapping
 from spreadsheet.columns import SYNONYMS, Form, plain
 
 # The columns of each kind: those that each sheet needs, those of which it needs one, and those that it may lack. A
-# `ref` is that of the record or aggregation that the act is for, but in `add-aggregation`. web/sheet/kinds.js has the
+# `ref` is that of the record or aggregation that the act is for, but in `add-aggregation`. page/sheet/kinds.js has the
 # same table, and the trial of the cases compares both.
 COLUMNS: dict[str, tuple[str, str, str]] = {
     "plan": ("act", "", "code ref title trigger unit count offset action schedule parent class"),

@@ -10,7 +10,7 @@ from checks.tree import TOP
 LISTS = {
     "tests/gate/mutants": ("tests/gate/planted/", "service/gate/office_gate/"),
     "tests/vault/mutants": ("tests/vault/planted", "service/vault/office_vault/"),
-    "tests/web/mutants": ("tests/web/planted/", "web/"),
+    "tests/web/mutants": ("tests/web/planted/", "page/"),
     "tests/transfer/mutants": ("tests/transfer/planted", "tools/", "service/office"),
     "tests/intake/mutants": ("tests/intake/planted", "tools/intak"),
     "tests/replicas/mutants": ("tests/replicas/planted/", "replicas/replica/"),

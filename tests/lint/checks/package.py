@@ -12,7 +12,8 @@ from typing import Any
 from checks.finding import Finding, call, line_of, need
 from checks.tree import TOP, files, interpreter, read, suffix
 
-LISTS = ("packaging/files", "packaging/replicas/files", "packaging/copies")
+COPIES = "packaging/copies"
+LISTS = ("packaging/files", "packaging/replicas/files", COPIES)
 LEFT_OUT = ("service/replicas/three",)
 """what no package has: it tries three members on one machine"""
 VERSION, DAY = "1.0", "2026-01-01"
@@ -43,11 +44,12 @@ def lists(names: list[str]) -> list[Finding]:
         seen: set[str] = set()
         for at, source, place in rows(name):
             own = [item for item in files() if item == source or item.startswith(f"{source}/")]
-            covered |= set(own) if name != "packaging/copies" else set()
+            covered |= set(own) if name != COPIES else set()
             if not own:
                 findings.append(Finding(name, at, f"{source} is not there"))
-            if not place.startswith("/") or place.endswith("/") or len(read(name).split("\n")[at - 1].split()) != 2:
-                findings.append(Finding(name, at, "no line of a source and a folder"))
+            most = 2 if name == COPIES else 3
+            if not place.startswith("/") or place.endswith("/") or len(read(name).split("\n")[at - 1].split()) > most:
+                findings.append(Finding(name, at, "no line of a source, a folder and perhaps a name"))
             if source in seen:
                 findings.append(Finding(name, at, f"{source} is there twice"))
             if place == "/usr/bin" and not all(interpreter(item) for item in own):

@@ -31,7 +31,7 @@ def is_javascript(name: str) -> bool:
 
 def is_of_page(name: str) -> bool:
     """Whether a file is a module of the page."""
-    return name.startswith("web/") and suffix(name) == ".js"
+    return name.startswith("page/") and suffix(name) == ".js"
 
 
 def ends(*endings: str) -> Callable[[str], bool]:
@@ -41,7 +41,7 @@ def ends(*endings: str) -> Callable[[str], bool]:
 
 def is_of_texts(name: str) -> bool:
     """Whether a file has texts of the page, names them, or has the tables that they are compared with."""
-    is_of_web = name.startswith("web/") and name.endswith((".js", ".html", ".json"))
+    is_of_web = name.startswith("page/") and name.endswith((".js", ".html", ".json"))
     return is_of_web or name in ("docs/ERRORS.md", "docs/WEB.md")
 
 
