@@ -35,7 +35,7 @@ PARTS = {
     "pages": "README.md and docs",
     "web": "page, docs/openapi.yaml, docs/ERRORS.md",
     "vault": "service/vault, docs/VAULT.md",
-    "package": "packaging, service, tools, CHANGELOG.md",
+    "package": "deploy/packaging, service, tools, CHANGELOG.md",
     "replicas": "replicas, service/replicas, docs/REPLICAS.md",
 }
 TAIL, JUDGED = 20, 40

@@ -27,7 +27,7 @@ BREAKS = (
     Break("service/vault/office_vault/objects.py", "", NO_PROGRAM, "python"),
     Break("replicas/replica/log.py", "", NO_PROGRAM, "python"),
     Break("tools/convert", "", NO_PROGRAM, "python"),
-    Break("packaging/make", "", NO_PROGRAM, "python"),
+    Break("deploy/packaging/make", "", NO_PROGRAM, "python"),
     Break("tests/run", "", NO_PROGRAM, "python"),
     # Python and types
     Break("service/office_common/child.py", "", "import base64", "pyflakes"),
@@ -41,9 +41,9 @@ BREAKS = (
     # scripts
     Break("service/office-backup", "", "( echo ) )", "shell"),
     Break("service/office-encrypt", "", "rm $1 $(cat $nowhere)", "shellcheck"),
-    Break("packaging/postinst", "", "fi", "hooks", ("packaging/postinst", "#!/bin/sh")),
-    Break("packaging/completion", "", "( echo ) )", "shell"),
-    Break("packaging/completion", "", "( echo ) )", "completion"),
+    Break("deploy/packaging/postinst", "", "fi", "hooks", ("deploy/packaging/postinst", "#!/bin/sh")),
+    Break("deploy/packaging/completion", "", "( echo ) )", "shell"),
+    Break("deploy/packaging/completion", "", "( echo ) )", "completion"),
     Break("tests/refused_memory/refused_memory.c", "", "int never(void) { return }", "c"),
     # the page
     Break("page/views/due.js", "", 'import "./nowhere.js";', "imports"),
@@ -89,12 +89,12 @@ BREAKS = (
     Break("service/gate/city.access", "role registry may", "role registry mya", "access"),
     Break("service/replicas/city.json", '"listen": 8181', '"listen": "8181"', "members"),
     # the package
-    Break("packaging/files", "service/office-yearend  ", "service/office-yearends ", "lists"),
+    Break("deploy/packaging/files", "service/office-yearend  ", "service/office-yearends ", "lists"),
     Break("service/nowhere.py", "", "pass", "lists"),
     Break("service/office-prune", "# office-prune FOLDER|FILE\n#\n", "# office-prune FOLDER|FILE\n", "manual",
           ("service/office-prune", "# Removes copies whose time has come.")),
-    Break("packaging/copyright", "Copyright (C) 2026 the owners of Hakirohe", "", "copyright", ("packaging/copyright",
-          "The records disposal office")),
+    Break("deploy/packaging/copyright", "Copyright (C) 2026 the owners of Hakirohe", "", "copyright",
+          ("deploy/packaging/copyright", "The records disposal office")),
     Break("CHANGELOG.md", "## 1.0.0 (", "## 1.0 0 (", "changelog"),
     # planted mistakes
     Break("service/gate/office_gate/deciding.py", "        if not may[kind]:\n", "        if kind not in may:\n",

@@ -12,17 +12,17 @@ from typing import Any
 from checks.finding import Finding, call, line_of, need
 from checks.tree import TOP, files, interpreter, read, suffix
 
-COPIES = "packaging/copies"
-LISTS = ("packaging/files", "packaging/replicas/files", COPIES)
+COPIES = "deploy/packaging/copies"
+LISTS = ("deploy/packaging/files", "deploy/packaging/replicas/files", COPIES)
 LEFT_OUT = ("service/replicas/three",)
 """what no package has: it tries three members on one machine"""
 VERSION, DAY = "1.0", "2026-01-01"
 
 
 def making(name: str) -> Any:
-    """Returns a module of packaging/making."""
-    if str(TOP / "packaging") not in sys.path:
-        sys.path.append(str(TOP / "packaging"))
+    """Returns a module of deploy/packaging/making."""
+    if str(TOP / "deploy/packaging") not in sys.path:
+        sys.path.append(str(TOP / "deploy/packaging"))
     return importlib.import_module(f"making.{name}")
 
 
@@ -129,7 +129,7 @@ def completion(names: list[str]) -> list[Finding]:
         done = call(["bash", "-n", made])
     findings = [Finding(names[0], 1, f"{mark} is still there") for mark in re.findall(r"@[A-Z]+@", text)]
     if done.status or done.text:
-        source = read("packaging/completion")
+        source = read("deploy/packaging/completion")
         at, more = re.search(r"line (\d+)", done.text), text.count("\n") - source.count("\n")
         place, line = line_of(source, "@OPERANDS@"), int(at[1]) if at else 1
         findings.append(Finding(names[0], line if line < place else max(place, line - more), done.text.strip()[:200]))

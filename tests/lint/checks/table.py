@@ -21,7 +21,7 @@ class Check(NamedTuple):
 
 def is_script(name: str) -> bool:
     """Whether a file is read by a shell: a script, or the completion, which has no first line."""
-    return is_shell(name) or name == "packaging/completion"
+    return is_shell(name) or name == "deploy/packaging/completion"
 
 
 def is_javascript(name: str) -> bool:
@@ -81,12 +81,12 @@ CHECKS = (
     Check("lists", "what the packages have is there, and what is there they have",
           lambda name: name in package.LISTS or name.startswith(("service/", "replicas/")), package.lists),
     Check("manual", "manual pages, by groff", package.has_page, package.manuals),
-    Check("completion", "the completion as it is made, by bash", ends("packaging/completion"), package.completion),
+    Check("completion", "the completion as it is made, by bash", ends("deploy/packaging/completion"), package.completion),
     Check("hooks", "what Debian runs before and after, as it is made", ends("/postinst", "/prerm", "/postrm"),
           package.hooks),
     Check("changelog", "the versions, in Debian's form", lambda name: name == "CHANGELOG.md", package.changelog),
     Check("mutants", "planted mistakes of the companions can still be planted", mutants.is_planted, mutants.applied),
     Check("c", "C, by the compiler", ends(".c"), c_files.parsed),
-    Check("copyright", "the copyright names a holder and a licence", ends("packaging/copyright"),
+    Check("copyright", "the copyright names a holder and a licence", ends("deploy/packaging/copyright"),
           package.copyright_text),
 )

@@ -34,7 +34,7 @@ GROUPS = (
     Group("service/vault", ".:.."),
     Group("service", ".:gate:vault"),
     Group("replicas", ".:../service"),
-    Group("packaging"),
+    Group("deploy/packaging"),
     Group("tools", ".:../service"),
     Group("tests/lint", ".:.."),
     Group("tests", only=("tests/kit/",)),

@@ -13,7 +13,7 @@ from kit.judging import judge
 from trying.machine import run
 
 PROGRAM = pathlib.Path(os.environ.get("OFFICE", TOP / "crates/office/out/office")).resolve()
-MAKE = TOP / "packaging/make"
+MAKE = TOP / "deploy/packaging/make"
 # who makes it, in each trial
 BY = {"DEBFULLNAME": "Office of the trial", "DEBEMAIL": "office@trial.example"}
 
@@ -135,7 +135,7 @@ def clone(place: pathlib.Path) -> pathlib.Path:
     top = place / "clone"
     out = top / "crates/office/out"
     out.mkdir(parents=True)
-    for name in ("docs", "examples", "packaging", "page", "service", "tools"):
+    for name in ("deploy", "docs", "examples", "page", "service", "tools"):
         shutil.copytree(TOP / name, top / name, ignore=shutil.ignore_patterns("__pycache__"))
     for name in ("office", "crates.txt", "README.md", "CHANGELOG.md"):
         shutil.copy(TOP / name, top)

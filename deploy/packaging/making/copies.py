@@ -8,7 +8,7 @@ from types import ModuleType
 from making.failing import fail
 from making.words import TOP
 
-LIST = TOP / "packaging/copies"
+LIST = TOP / "deploy/packaging/copies"
 
 
 def script() -> ModuleType:
@@ -69,7 +69,7 @@ def text() -> str:
     for source, place in rows:
         path = pathlib.Path(TOP / source)
         if not path.is_file():
-            fail(f"packaging/copies names {source}, which is not there")
+            fail(f"deploy/packaging/copies names {source}, which is not there")
         older = [digest_of(read[name]) for name in of_sources[source]]
         lines.append(" ".join([source, place, *dict.fromkeys([digest_of(path.read_text()), *older])]))
     return "\n".join(lines) + "\n"

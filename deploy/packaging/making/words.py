@@ -4,7 +4,7 @@ import pathlib
 import re
 from typing import NamedTuple
 
-TOP = pathlib.Path(__file__).resolve().parent.parent.parent
+TOP = pathlib.Path(__file__).resolve().parents[3]
 README, ERRORS = TOP / "README.md", TOP / "docs/ERRORS.md"
 
 

@@ -12,7 +12,7 @@ from making.changelog import Version, debian
 from making.failing import fail
 from making.words import TOP, table
 
-HERE = TOP / "packaging"
+HERE = TOP / "deploy/packaging"
 UNITS = "lib/systemd/system"
 REPLICAS = "replicas/files"
 """the list of the package office-replicas"""
@@ -34,7 +34,7 @@ class Listed(NamedTuple):
 
 
 def listed(of: str = "files") -> list[Listed]:
-    """The lines of packaging/files, or of another list there."""
+    """The lines of deploy/packaging/files, or of another list there."""
     lines = [line.split() for line in (HERE / of).read_text().split("\n") if line and not line.startswith("#")]
     return [Listed(TOP / source, folder.strip("/"), name[0] if name else pathlib.PurePath(source).name)
             for source, folder, *name in lines]
@@ -115,7 +115,7 @@ def put_listed(top: pathlib.Path, of: str) -> None:
     """The files of a list."""
     for source, folder, name in listed(of):
         if not source.exists():
-            fail(f"packaging/{of} names {source.relative_to(TOP)}, which is not there")
+            fail(f"deploy/packaging/{of} names {source.relative_to(TOP)}, which is not there")
         for file in files_below(source):
             put_file(file, top / folder / name / file.relative_to(source))
 
