@@ -31,11 +31,11 @@ PARTS = {
     "tables": "office_sql, office_store, office_desk",
     "wire": "office_json, office_csv, office_http, office_wire, tools",
     "words": "all other crates",
-    "service": "service, docs/SERVICE.md, docs/BACKUP.md, docs/WATCHING.md",
+    "service": "service, deploy, docs/SERVICE.md, docs/BACKUP.md, docs/WATCHING.md",
     "pages": "README.md and docs",
     "web": "page, docs/openapi.yaml, docs/ERRORS.md",
     "vault": "service/vault, docs/VAULT.md",
-    "package": "deploy/packaging, service, tools, CHANGELOG.md",
+    "package": "deploy, service, tools, CHANGELOG.md",
     "replicas": "replicas, service/replicas, docs/REPLICAS.md",
 }
 TAIL, JUDGED = 20, 40

@@ -66,10 +66,10 @@ def prepare_nginx(shell: Shell) -> None:
     """What docs/SERVICE.md does for one office, at the port of the member."""
     for command in (
             "mkdir -p /etc/nginx/office /var/log/office /etc/nginx/sites-available",
-            "cp service/nginx/http.conf service/nginx/server.conf service/nginx/actors.conf /etc/nginx/office/",
-            "cp service/nginx/vault.conf service/nginx/vaults.conf /etc/nginx/office/",
-            "cp service/nginx/acts.js /etc/nginx/office/",
-            "sed 's/8080/8181/' service/nginx/office.conf > /etc/nginx/sites-available/office",
+            "cp deploy/nginx/http.conf deploy/nginx/server.conf deploy/nginx/actors.conf /etc/nginx/office/",
+            "cp deploy/nginx/vault.conf deploy/nginx/vaults.conf /etc/nginx/office/",
+            "cp deploy/nginx/acts.js /etc/nginx/office/",
+            "sed 's/8080/8181/' deploy/nginx/office.conf > /etc/nginx/sites-available/office",
             "ln -sf ../sites-available/office /etc/nginx/sites-enabled/office",
             "rm -f /etc/nginx/sites-enabled/default",
             "openssl req -x509 -newkey ec -pkeyopt ec_paramgen_curve:P-256 -nodes -days 9 -subj /CN=localhost "

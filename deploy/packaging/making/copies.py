@@ -6,6 +6,7 @@ import subprocess
 from types import ModuleType
 
 from making.failing import fail
+from making.listed import DOC, DOC_REPLICAS, REPLICAS, place_of
 from making.words import TOP
 
 LIST = TOP / "deploy/packaging/copies"
@@ -28,21 +29,32 @@ def git(*words: str, given: bytes = b"") -> bytes:
     return done.stdout if done.returncode == 0 else b""
 
 
-def ends_of(source: str) -> str:
-    """Returns how a path of a file ends in each commit: its folder was moved as a whole."""
-    return "/".join(source.split("/")[-2:])
+def name_of(source: str) -> str:
+    """Returns the name that office-copies has for a file: its path in the documentation, or in `service/replicas`."""
+    if place := place_of(source):
+        return place.removeprefix(f"{DOC}/")
+    if place := place_of(source, REPLICAS):
+        return place.replace(DOC_REPLICAS, "service/replicas")
+    fail(f"no package has {source}, which deploy/packaging/copies names")
+
+
+def ends_of(source: str) -> set[str]:
+    """Returns how a path of a file ended in any commit: its folder was moved as a whole, or was called otherwise."""
+    return {"/".join(path.split("/")[-2:]) for path in (source, name_of(source))}
 
 
 def blobs(sources: list[str]) -> dict[str, list[str]]:
     """Lists the contents that each file ever had, the last one first."""
-    patterns = [f":(glob)**/{ends_of(it)}" for it in sources]
+    ends = {it: ends_of(it) for it in sources}
+    patterns = [f":(glob)**/{it}" for it in sorted(set().union(*ends.values()))]
     contents: dict[str, list[str]] = {it: [] for it in sources}
     log = git("log", "--raw", "--no-renames", "--no-abbrev", "--format=", "HEAD", "--", *patterns).decode()
     for line in [it for it in log.split("\n") if it.startswith(":")]:
         fields, path = line.split("\t", 1)
         blob = fields.split()[3]
         for source in sources:
-            if path.endswith("/" + ends_of(source)) and blob.strip("0") and blob not in contents[source]:
+            is_its = any(path.endswith(f"/{it}") for it in ends[source])
+            if is_its and blob.strip("0") and blob not in contents[source]:
                 contents[source].append(blob)
     return contents
 
@@ -60,7 +72,7 @@ def texts(names: list[str]) -> dict[str, str]:
 
 
 def text() -> str:
-    """Returns the list: for each file its path, where its copy is, and its digests, that of now first."""
+    """Returns the list: for each file its name, where its copy is, and its digests, that of now first."""
     digest_of = script().digest_of
     rows = [line.split() for line in LIST.read_text().split("\n") if line and not line.startswith("#")]
     of_sources = blobs(sorted({source for source, _ in rows}))
@@ -71,5 +83,5 @@ def text() -> str:
         if not path.is_file():
             fail(f"deploy/packaging/copies names {source}, which is not there")
         older = [digest_of(read[name]) for name in of_sources[source]]
-        lines.append(" ".join([source, place, *dict.fromkeys([digest_of(path.read_text()), *older])]))
+        lines.append(" ".join([name_of(source), place, *dict.fromkeys([digest_of(path.read_text()), *older])]))
     return "\n".join(lines) + "\n"

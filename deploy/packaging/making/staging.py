@@ -5,18 +5,14 @@ import pathlib
 import re
 import shutil
 import subprocess
-from typing import NamedTuple
 
 from making import copies, manual
 from making.changelog import Version, debian
 from making.failing import fail
+from making.listed import DOC, DOC_REPLICAS, FILES, HERE, REPLICAS, listed
 from making.words import TOP, table
 
-HERE = TOP / "deploy/packaging"
 UNITS = "lib/systemd/system"
-REPLICAS = "replicas/files"
-"""the list of the package office-replicas"""
-DOC = "usr/share/doc/office"
 # what the examples say of a machine without the package, and what is so with it
 PLACES = [("/usr/local/bin/", "/usr/bin/"), ("/usr/local/share/office", "/usr/share/office"),
           ("/usr/local/lib/office-replicas", "/usr/lib/office-replicas")]
@@ -25,22 +21,7 @@ MACHINE = (".service", ".timer", ".conf", ".nft", "office-acts", "city.json", "o
            "office-replicas-renew")
 
 
-class Listed(NamedTuple):
-    """A line of the list: a file or a folder of the repository, the folder that it goes to, and its name there."""
-
-    source: pathlib.Path
-    folder: str
-    name: str
-
-
-def listed(of: str = "files") -> list[Listed]:
-    """The lines of deploy/packaging/files, or of another list there."""
-    lines = [line.split() for line in (HERE / of).read_text().split("\n") if line and not line.startswith("#")]
-    return [Listed(TOP / source, folder.strip("/"), name[0] if name else pathlib.PurePath(source).name)
-            for source, folder, *name in lines]
-
-
-def units(of: str = "files") -> list[str]:
+def units(of: str = FILES) -> list[str]:
     """What systemd may have running of the package's units, as patterns."""
     names = [it.name for it in listed(of) if it.folder == UNITS and not it.source.is_dir()]
     return sorted(it.replace("@.", "@*.") for it in names)
@@ -120,11 +101,21 @@ def put_listed(top: pathlib.Path, of: str) -> None:
             put_file(file, top / folder / name / file.relative_to(source))
 
 
+def put_links(top: pathlib.Path) -> None:
+    """Puts a link at the place that a file of the documentation has in the repository, which pages name it by."""
+    for source, folder, name in listed():
+        file, link = top / folder / name, top / DOC / source.relative_to(TOP)
+        if file.is_relative_to(top / DOC) and link != file:
+            link.parent.mkdir(parents=True, exist_ok=True)
+            link.unlink(missing_ok=True)
+            link.symlink_to(os.path.relpath(file, link.parent))
+
+
 def stage_replicas(top: pathlib.Path, all_versions: list[Version], maintainer: str) -> None:
     """Lays out the files of office-replicas below a folder."""
     put_listed(top, REPLICAS)
     put_manuals(top, all_versions[0], REPLICAS)
-    doc = top / "usr/share/doc/office-replicas"
+    doc = top / DOC_REPLICAS
     put((HERE / "copyright").read_text(), doc / "copyright")
     put_packed(debian(all_versions, maintainer, "office-replicas"), doc / "changelog.gz")
 
@@ -132,17 +123,18 @@ def stage_replicas(top: pathlib.Path, all_versions: list[Version], maintainer: s
 def stage(top: pathlib.Path, program: pathlib.Path, all_versions: list[Version], maintainer: str) -> None:
     """Lays out all files below a folder. What is not there any more is left where it lies."""
     put_program(program, top / "usr/bin/office")
-    put_listed(top, "files")
+    put_listed(top, FILES)
+    put_links(top)
     last = all_versions[0]
-    put_manuals(top, last, "files")
-    put_packed(manual.office(last.number, str(last.day), scripts_in("files")), top / "usr/share/man/man1/office.1.gz")
+    put_manuals(top, last, FILES)
+    put_packed(manual.office(last.number, str(last.day), scripts_in(FILES)), top / "usr/share/man/man1/office.1.gz")
     put_completion(top / "usr/share/bash-completion/completions/office")
     put(copies.text(), top / "usr/share/office/copies")
     put((HERE / "copyright").read_text(), top / DOC / "copyright")
     put_packed(debian(all_versions, maintainer), top / DOC / "changelog.gz")
 
 
-def hooks(of: str = "files") -> dict[str, str]:
+def hooks(of: str = FILES) -> dict[str, str]:
     """What Debian runs before and after, with the names of the units. Those of a list lie beside it."""
     names = " ".join(f"'{it}'" for it in units(of))
     folder = (HERE / of).parent

@@ -14,8 +14,10 @@ from checks.tree import TOP, files, interpreter, read, suffix
 
 COPIES = "deploy/packaging/copies"
 LISTS = ("deploy/packaging/files", "deploy/packaging/replicas/files", COPIES)
-LEFT_OUT = ("service/replicas/three",)
-"""what no package has: it tries three members on one machine"""
+OF_MACHINE = ("service/", "replicas/", "deploy/")
+"""the folders whose files go to machines, but for those of LEFT_OUT and pages"""
+LEFT_OUT = ("deploy/packaging/", "service/replicas/three")
+"""what no package has: it makes packages, or tries three members on one machine"""
 VERSION, DAY = "1.0", "2026-01-01"
 
 
@@ -37,7 +39,7 @@ def rows(name: str) -> list[tuple[int, str, str]]:
 
 
 def lists(names: list[str]) -> list[Finding]:
-    """Compares the lists with the repository: each source is there, and each file of service is in a list."""
+    """Compares the lists with the repository: each source is there, and each file for a machine is in a list."""
     findings: list[Finding] = []
     covered: set[str] = set()
     for name in LISTS:
@@ -56,8 +58,8 @@ def lists(names: list[str]) -> list[Finding]:
                 findings.append(Finding(name, at, f"{source} has no first line that names its program"))
             seen.add(source)
     for item in files():
-        is_of_machine = item.startswith(("service/", "replicas/")) and suffix(item) != ".md"
-        if is_of_machine and item not in covered and item not in LEFT_OUT:
+        is_of_machine = item.startswith(OF_MACHINE) and not item.startswith(LEFT_OUT) and suffix(item) != ".md"
+        if is_of_machine and item not in covered:
             findings.append(Finding(item, 1, f"it is in no package: add it to {' or '.join(LISTS[:2])}"))
     return [item for item in findings if item.file in names]
 

@@ -79,7 +79,7 @@ CHECKS = (
     Check("access", "settings of a gate, by office-gate", ends(".access"), machine.access),
     Check("members", "settings of a member, by the member", ends("service/replicas/city.json"), machine.members),
     Check("lists", "what the packages have is there, and what is there they have",
-          lambda name: name in package.LISTS or name.startswith(("service/", "replicas/")), package.lists),
+          lambda name: name in package.LISTS or name.startswith(package.OF_MACHINE), package.lists),
     Check("manual", "manual pages, by groff", package.has_page, package.manuals),
     Check("completion", "the completion as it is made, by bash", ends("deploy/packaging/completion"), package.completion),
     Check("hooks", "what Debian runs before and after, as it is made", ends("/postinst", "/prerm", "/postrm"),

@@ -27,10 +27,12 @@ def make(place: pathlib.Path, changelog: pathlib.Path | None = None) -> pathlib.
 
 
 def judge_list() -> None:
-    """No file of service is forgotten, and what is listed is there."""
+    """No file of service and deploy is forgotten, and what is listed is there."""
     sources = {it.source for it in staging.listed()}
-    missing = [it.name for it in sorted((TOP / "service").iterdir()) if it.is_file() and it not in sources]
-    judge("the list has each file of service", not missing, missing)
+    folders = [TOP / "service", *(it for it in (TOP / "deploy").iterdir() if it.name != "packaging")]
+    missing = [it.name for folder in folders for it in sorted(folder.iterdir())
+               if it.is_file() and not sources & {it, folder}]
+    judge("the list has each file of service and deploy", not missing, missing)
     judge("each file of the list is there", all(it.exists() for it in sources))
     within = {it.relative_to(TOP).parts[0] for it in sources}
     judge("nothing of it is a trial or a measure", not within & {"tests", "bench"}, within)
@@ -114,10 +116,10 @@ def judge_tools(top: pathlib.Path) -> None:
 
 
 def judge_named(top: pathlib.Path) -> None:
-    """What the commands of the pages copy from service is in the package, but for what it puts elsewhere."""
+    """What the commands of the pages copy is in the package, but for what it puts elsewhere."""
     doc = top / "usr/share/doc/office"
     page = "\n".join((TOP / f"docs/{it}.md").read_text() for it in ("INSTALL", "SERVICE", "BACKUP", "WATCHING"))
-    copied = re.findall(r"(?m)(?<=[ ])service/[\w@./*-]+", "\n".join(re.findall(r"(?m)^    .*", page)))
+    copied = re.findall(r"(?m)(?<=[ ])(?:deploy|service)/[\w@./*-]+", "\n".join(re.findall(r"(?m)^    .*", page)))
     named = {str(it.relative_to(TOP)) for pattern in copied for it in TOP.glob(pattern)} | {it for it in copied if "*" not in it}
     elsewhere = {it.source for it in staging.listed() if not f"/{it.folder}".startswith("/usr/share/doc")}
     missing = sorted(it for it in named if TOP / it not in elsewhere and not (doc / it).exists())
