@@ -31,12 +31,12 @@ PARTS = {
     "tables": "office_sql, office_store, office_desk",
     "wire": "office_json, office_csv, office_http, office_wire, tools",
     "words": "all other crates",
-    "service": "service, deploy, docs/SERVICE.md, docs/BACKUP.md, docs/WATCHING.md",
+    "service": "companions, deploy, docs/SERVICE.md, docs/BACKUP.md, docs/WATCHING.md",
     "pages": "README.md and docs",
     "web": "page, docs/openapi.yaml, docs/ERRORS.md",
-    "vault": "service/vault, docs/VAULT.md",
-    "package": "deploy, service, tools, CHANGELOG.md",
-    "replicas": "replicas, service/replicas, docs/REPLICAS.md",
+    "vault": "companions/vault, docs/VAULT.md",
+    "package": "companions, deploy, tools, CHANGELOG.md",
+    "replicas": "replicas, companions/replicas, docs/REPLICAS.md",
 }
 TAIL, JUDGED = 20, 40
 """how many lines of a failed trial are printed: of its end, and of what failed"""

@@ -3,7 +3,7 @@ import sys
 from pathlib import Path
 
 TOOLS = Path(__file__).resolve().parent
-PLACES = (TOOLS.parent / "service", Path("/usr/local/lib/office"), TOOLS / "../../../../lib/office")
+PLACES = (TOOLS.parent / "companions", Path("/usr/local/lib/office"), TOOLS / "../../../../lib/office")
 """of the repository, of a machine without the package, and of the package, whose tools are in usr/share/doc/office"""
 
 

@@ -6,5 +6,5 @@ import sys
 from pathlib import Path
 
 HERE = Path(__file__).resolve().parent.parent
-sys.path += [str(place) for place in (HERE.parent / "service", HERE.parent / "office")
+sys.path += [str(place) for place in (HERE.parent / "companions", HERE.parent / "office")
              if (place / "office_common").is_dir() and str(place) not in sys.path]

@@ -19,7 +19,7 @@ from replicas.posting import begun, get, halts, post, posted, record
 from replicas.verdict import same_rows
 
 
-EXAMPLES = TOP / "service/replicas"
+EXAMPLES = TOP / "companions/replicas"
 
 
 def no_quorum(cluster: Cluster) -> None:
@@ -198,7 +198,7 @@ def wrong_file(cluster: Cluster) -> None:
 
 
 def secured(cluster: Cluster) -> None:
-    """etcd asks for certificates of the script of service/replicas."""
+    """etcd asks for certificates of the script of companions/replicas."""
     cluster.tls = cluster.folder / "certificates"
     subprocess.run([EXAMPLES / "certificates", cluster.tls, *(f"m{it}=127.0.0.1" for it in range(3))], check=True,
                    stdout=subprocess.DEVNULL, stderr=subprocess.DEVNULL)

@@ -12,7 +12,7 @@ from kit.office import Office
 from kit.waiting import comes
 
 HERE = TOP / "tests"
-SERVICE = TOP / "service"
+SERVICE = TOP / "companions"
 NOBODY = 65534
 FIRST, LAST = "2024-01-02", "2025-01-02"
 RECORDS = 20

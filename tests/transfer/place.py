@@ -5,7 +5,7 @@ import re
 from kit.commands import OFFICE, TOP, Done, run
 
 HERE = pathlib.Path(__file__).resolve().parent
-TOOLS, SERVICE = TOP / "tools", TOP / "service"
+TOOLS, SERVICE = TOP / "tools", TOP / "companions"
 __all__ = ["HERE", "OFFICE", "SERVICE", "TOOLS", "TOP", "Done", "challenge_of", "files_in", "run"]
 
 

@@ -19,7 +19,7 @@ from shots import SCHEMES, SIZES, shots
 from story import TEXTS, says
 
 WORDS = TEXTS["catalogue"]
-SERVICE = TOP / "service"
+SERVICE = TOP / "companions"
 # so many records are there for how it looks
 MANY = 2000
 VIEWS = {"records": "", "aggregations": "?part=aggregations", "schedules": "?part=schedules", "holds": "?part=holds"}

@@ -105,7 +105,7 @@ def fill(world: World, proxy: Proxy, catalogues: pathlib.Path) -> None:
     same("a hold", proxy.act("legal", [{"act": "place-hold", "code": "H", "reason": "a lawsuit", **day}])[0], 200)
     for command, *places in (("office-backup", world.file, world.folder / "copy.db"),
                              ("office-catalogue", world.folder / "copy.db", catalogues)):
-        done = subprocess.run([TOP / "service" / str(command), *places], capture_output=True, text=True, check=False,
+        done = subprocess.run([TOP / "companions" / str(command), *places], capture_output=True, text=True, check=False,
                               env={**os.environ, "OFFICE": OFFICE})
         judge(f"{command}", done.returncode == 0, done.stderr)
 

@@ -66,7 +66,7 @@ def make(world: World) -> None:
     copy = world.folder / "copy.db"
     copy.unlink(missing_ok=True)
     for command, *places in (("office-backup", world.file, copy), ("office-catalogue", copy, world.catalogue)):
-        done = subprocess.run([TOP / "service" / str(command), *places], capture_output=True, text=True, check=False,
+        done = subprocess.run([TOP / "companions" / str(command), *places], capture_output=True, text=True, check=False,
                               env={**os.environ, "OFFICE": OFFICE})
         judge(f"{command}", done.returncode == 0, done.stderr)
 

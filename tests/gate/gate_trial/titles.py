@@ -93,7 +93,7 @@ def make(world: World) -> None:
     copy = world.folder / "copy.db"
     copy.unlink(missing_ok=True)
     for command, *words in (("office-backup", world.file, copy), ("office-catalogue", copy, world.catalogue)):
-        done = subprocess.run([TOP / "service" / str(command), *words], capture_output=True, text=True, check=False,
+        done = subprocess.run([TOP / "companions" / str(command), *words], capture_output=True, text=True, check=False,
                               env={**os.environ, "OFFICE": OFFICE})
         judge(command, done.returncode == 0, done.stderr)
 

@@ -134,7 +134,7 @@ def access(names: list[str]) -> list[Finding]:
     """Has office-gate read each file of settings of a gate."""
     findings = []
     for name in names:
-        done = call([PYTHON, "-I", "service/gate/office-gate", "check", name], cwd=TOP)
+        done = call([PYTHON, "-I", "companions/gate/office-gate", "check", name], cwd=TOP)
         if missing := re.search("No module named '(aiohttp|h11)'", done.text):
             raise Skipped(f"there is no python3-{missing[1]}")
         if done.status:

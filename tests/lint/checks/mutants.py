@@ -8,10 +8,10 @@ from checks.python_files import PYTHON
 from checks.tree import TOP
 
 LISTS = {
-    "tests/gate/mutants": ("tests/gate/planted/", "service/gate/office_gate/"),
-    "tests/vault/mutants": ("tests/vault/planted", "service/vault/office_vault/"),
+    "tests/gate/mutants": ("tests/gate/planted/", "companions/gate/office_gate/"),
+    "tests/vault/mutants": ("tests/vault/planted", "companions/vault/office_vault/"),
     "tests/web/mutants": ("tests/web/planted/", "page/"),
-    "tests/transfer/mutants": ("tests/transfer/planted", "tools/", "service/office"),
+    "tests/transfer/mutants": ("tests/transfer/planted", "tools/", "companions/office"),
     "tests/intake/mutants": ("tests/intake/planted", "tools/intak"),
     "tests/replicas/mutants": ("tests/replicas/planted/", "replicas/replica/"),
 }

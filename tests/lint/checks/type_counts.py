@@ -30,12 +30,12 @@ class Group(NamedTuple):
 
 
 GROUPS = (
-    Group("service/gate", ".:..:../vault"),
-    Group("service/vault", ".:.."),
-    Group("service", ".:gate:vault"),
-    Group("replicas", ".:../service"),
+    Group("companions/gate", ".:..:../vault"),
+    Group("companions/vault", ".:.."),
+    Group("companions", ".:gate:vault"),
+    Group("replicas", ".:../companions"),
     Group("deploy/packaging"),
-    Group("tools", ".:../service"),
+    Group("tools", ".:../companions"),
     Group("tests/lint", ".:.."),
     Group("tests", only=("tests/kit/",)),
 )

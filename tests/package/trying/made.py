@@ -27,12 +27,12 @@ def make(place: pathlib.Path, changelog: pathlib.Path | None = None) -> pathlib.
 
 
 def judge_list() -> None:
-    """No file of service and deploy is forgotten, and what is listed is there."""
+    """No file of companions and deploy is forgotten, and what is listed is there."""
     sources = {it.source for it in staging.listed()}
-    folders = [TOP / "service", *(it for it in (TOP / "deploy").iterdir() if it.name != "packaging")]
+    folders = [TOP / "companions", *(it for it in (TOP / "deploy").iterdir() if it.name != "packaging")]
     missing = [it.name for folder in folders for it in sorted(folder.iterdir())
                if it.is_file() and not sources & {it, folder}]
-    judge("the list has each file of service and deploy", not missing, missing)
+    judge("the list has each file of companions and deploy", not missing, missing)
     judge("each file of the list is there", all(it.exists() for it in sources))
     within = {it.relative_to(TOP).parts[0] for it in sources}
     judge("nothing of it is a trial or a measure", not within & {"tests", "bench"}, within)
@@ -119,7 +119,7 @@ def judge_named(top: pathlib.Path) -> None:
     """What the commands of the pages copy is in the package, but for what it puts elsewhere."""
     doc = top / "usr/share/doc/office"
     page = "\n".join((TOP / f"docs/{it}.md").read_text() for it in ("INSTALL", "SERVICE", "BACKUP", "WATCHING"))
-    copied = re.findall(r"(?m)(?<=[ ])(?:deploy|service)/[\w@./*-]+", "\n".join(re.findall(r"(?m)^    .*", page)))
+    copied = re.findall(r"(?m)(?<=[ ])(?:companions|deploy)/[\w@./*-]+", "\n".join(re.findall(r"(?m)^    .*", page)))
     named = {str(it.relative_to(TOP)) for pattern in copied for it in TOP.glob(pattern)} | {it for it in copied if "*" not in it}
     elsewhere = {it.source for it in staging.listed() if not f"/{it.folder}".startswith("/usr/share/doc")}
     missing = sorted(it for it in named if TOP / it not in elsewhere and not (doc / it).exists())
@@ -137,7 +137,7 @@ def clone(place: pathlib.Path) -> pathlib.Path:
     top = place / "clone"
     out = top / "crates/office/out"
     out.mkdir(parents=True)
-    for name in ("deploy", "docs", "examples", "page", "service", "tools"):
+    for name in ("companions", "deploy", "docs", "examples", "page", "tools"):
         shutil.copytree(TOP / name, top / name, ignore=shutil.ignore_patterns("__pycache__"))
     for name in ("office", "crates.txt", "README.md", "CHANGELOG.md"):
         shutil.copy(TOP / name, top)
