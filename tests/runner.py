@@ -36,7 +36,7 @@ PARTS = {
     "web": "page, docs/openapi.yaml, docs/ERRORS.md",
     "vault": "companions/vault, docs/VAULT.md",
     "package": "companions, deploy, tools, CHANGELOG.md",
-    "replicas": "replicas, companions/replicas, docs/REPLICAS.md",
+    "replicas": "companions/members, docs/REPLICAS.md",
 }
 TAIL, JUDGED = 20, 40
 """how many lines of a failed trial are printed: of its end, and of what failed"""

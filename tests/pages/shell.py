@@ -10,7 +10,7 @@ from pages.commands import TOP
 PROGRAM = pathlib.Path(os.environ.get("OFFICE", TOP / "crates/office/out/office")).resolve()
 SECONDS = 300
 # what the commands of the pages name
-FOLDERS = ("companions", "deploy", "examples", "page", "replicas", "tools")
+FOLDERS = ("companions", "deploy", "examples", "page", "tools")
 
 
 class Done(NamedTuple):

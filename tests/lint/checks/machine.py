@@ -155,7 +155,7 @@ def members(names: list[str]) -> list[Finding]:
             json.loads(text)
         except json.JSONDecodeError:
             continue  # the check json reports it
-        fault = call([PYTHON, "-B", "-c", MEMBER], cwd=TOP / "replicas", given=text).text.strip()
+        fault = call([PYTHON, "-B", "-c", MEMBER], cwd=TOP / "companions/members", given=text).text.strip()
         if fault:
             word = fault.split()[0]
             findings.append(Finding(name, line_of(text, f'"{word}"'), fault[-200:]))

@@ -13,7 +13,7 @@ LISTS = {
     "tests/web/mutants": ("tests/web/planted/", "page/"),
     "tests/transfer/mutants": ("tests/transfer/planted", "tools/", "companions/office"),
     "tests/intake/mutants": ("tests/intake/planted", "tools/intak"),
-    "tests/replicas/mutants": ("tests/replicas/planted/", "replicas/replica/"),
+    "tests/replicas/mutants": ("tests/replicas/planted/", "companions/members/replica/"),
 }
 """each list, and how the names of the files begin of which it knows"""
 LINE = re.compile(r"^(?P<file>tests/[^:\n]+):(?P<line>\d+): (?P<text>.+)$", re.M)

@@ -14,9 +14,9 @@ from checks.tree import TOP, files, interpreter, read, suffix
 
 COPIES = "deploy/packaging/copies"
 LISTS = ("deploy/packaging/files", "deploy/packaging/replicas/files", COPIES)
-OF_MACHINE = ("companions/", "replicas/", "deploy/")
+OF_MACHINE = ("companions/", "deploy/")
 """the folders whose files go to machines, but for those of LEFT_OUT and pages"""
-LEFT_OUT = ("deploy/packaging/", "companions/replicas/three")
+LEFT_OUT = ("deploy/packaging/", "companions/members/setup/three")
 """what no package has: it makes packages, or tries three members on one machine"""
 VERSION, DAY = "1.0", "2026-01-01"
 

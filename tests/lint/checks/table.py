@@ -77,7 +77,7 @@ CHECKS = (
     Check("environment", "settings that units read", ends("city.conf", "city.mail", "etcd.conf"), machine.environment),
     Check("keepalived", "blocks of keepalived are balanced", ends("keepalived.conf"), machine.keepalived),
     Check("access", "settings of a gate, by office-gate", ends(".access"), machine.access),
-    Check("members", "settings of a member, by the member", ends("companions/replicas/city.json"), machine.members),
+    Check("members", "settings of a member, by the member", ends("companions/members/setup/city.json"), machine.members),
     Check("lists", "what the packages have is there, and what is there they have",
           lambda name: name in package.LISTS or name.startswith(package.OF_MACHINE), package.lists),
     Check("manual", "manual pages, by groff", package.has_page, package.manuals),

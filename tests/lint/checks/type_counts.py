@@ -33,7 +33,7 @@ GROUPS = (
     Group("companions/gate", ".:..:../vault"),
     Group("companions/vault", ".:.."),
     Group("companions", ".:gate:vault"),
-    Group("replicas", ".:../companions"),
+    Group("companions/members", ".:.."),
     Group("deploy/packaging"),
     Group("tools", ".:../companions"),
     Group("tests/lint", ".:.."),
