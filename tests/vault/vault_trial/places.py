@@ -8,7 +8,6 @@ TOP = HERE.parent.parent
 OFFICE = os.environ.get("OFFICE", "office")
 VAULT = pathlib.Path(os.environ.get("VAULT_SOURCES", TOP / "companions/vault"))
 COMMAND = str(VAULT / "office-vault")
-SCRIPTS = TOP / "companions"
 NGINX = TOP / "deploy/nginx"
 
 sys.dont_write_bytecode = True
