@@ -6,7 +6,8 @@ import shutil
 from collections.abc import Iterator
 
 TOP = pathlib.Path(__file__).resolve().parents[2]
-FOLDERS = (TOP / "companions", TOP / "companions/gate", TOP / "companions/vault", TOP / "companions/members/units")
+FOLDERS = (TOP / "companions", TOP / "companions/gate", TOP / "companions/vault",
+           *sorted(TOP.glob("companions/*/units")))
 SUFFIXES = (".service", ".timer", ".socket")
 LAID_TWICE = {"office@.service.d": "office-.service.d"}
 """folders of drop-ins that a machine has too, each with the one whose files are in it"""

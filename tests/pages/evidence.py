@@ -7,8 +7,8 @@ PAGE = "docs/EVIDENCE.md"
 # what the office gives to the auditor of the page's first part
 GIVEN = """mkdir -p /etc/office /usr/local/lib/office certificates seals
 ssh-keygen -q -t ed25519 -N '' -f given
-companions/office-seal fetch 8081 certificates
-companions/office-seal sign --name city --key given certificates seals
+companions/seals/office-seal fetch 8081 certificates
+companions/seals/office-seal sign --name city --key given certificates seals
 echo "city namespaces=\\"office-seal\\" $(cut -d ' ' -f 1,2 given.pub)" > city.signers
 tools/verify seals city.signers"""
 
@@ -27,11 +27,10 @@ ROWS = [
     Row("ssh-keygen -Y verify", like=r'Good "office-seal" signature for city with ED25519 key SHA256:\S+\n'),
     Row("sha256sum seals/", like=r"[0-9a-f]{64}  seals/000001/certificate-1\.txt\n", then=is_first),
     Row("adduser"),
-    Row("cp -r companions/office_seal"),
-    Row("install -m 755 companions/office-seal", prints=""),
+    Row("cp -r companions/seals/office_seal"),
+    Row("install -m 755 companions/seals/office-seal", prints=""),
     Row("cp -r companions/office-.service.d"),
-    Row("cp companions/office-certificates@.service"),
-    Row("cp companions/office-seal@.service", then=units_are_taken),
+    Row("cp companions/seals/units/office-", then=units_are_taken),
     Row("ssh-keygen -q"),
     Row('echo "city', prints=""),
     Row("ssh-keygen -l", like=r"256 SHA256:\S+ office city, first key \(ED25519\)\n"),

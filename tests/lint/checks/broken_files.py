@@ -32,9 +32,9 @@ BREAKS = (
     # Python and types
     Break("companions/office_common/child.py", "", "import base64", "pyflakes"),
     Break("companions/office-awaiting", "", "print(never_named)", "pyflakes"),
-    Break("companions/office_seal/chain.py", "", "def widened(number: int) -> str:\n    return number",
-          "mypy", ("companions/office_seal/chain.py", "    return number\n")),
-    Break("tests/lint/known.txt", "mypy companions/office_seal/stamping.py 1", "mypy companions/office_seal/stamping.py 2",
+    Break("companions/seals/office_seal/chain.py", "", "def widened(number: int) -> str:\n    return number",
+          "mypy", ("companions/seals/office_seal/chain.py", "    return number\n")),
+    Break("tests/lint/known.txt", "mypy companions/seals/office_seal/stamping.py 1", "mypy companions/seals/office_seal/stamping.py 2",
           "mypy"),
     Break("tests/lint/known.txt", "tsc page/ask.js 2", "tsc page/asks.js 2", "tsc"),
     Break("page/plain/days.js", "", "floor({}, 1, \"a\");", "tsc"),

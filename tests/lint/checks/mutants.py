@@ -11,7 +11,7 @@ LISTS = {
     "tests/gate/mutants": ("tests/gate/planted/", "companions/gate/office_gate/"),
     "tests/vault/mutants": ("tests/vault/planted", "companions/vault/office_vault/"),
     "tests/web/mutants": ("tests/web/planted/", "page/"),
-    "tests/transfer/mutants": ("tests/transfer/planted", "tools/", "companions/office"),
+    "tests/transfer/mutants": ("tests/transfer/planted", "tools/", "companions/office", "companions/seals/"),
     "tests/intake/mutants": ("tests/intake/planted", "tools/intak"),
     "tests/replicas/mutants": ("tests/replicas/planted/", "companions/members/replica/"),
 }

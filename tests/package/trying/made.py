@@ -29,9 +29,11 @@ def make(place: pathlib.Path, changelog: pathlib.Path | None = None) -> pathlib.
 def judge_list() -> None:
     """No file of companions and deploy is forgotten, and what is listed is there."""
     sources = {it.source for it in staging.listed()}
-    folders = [TOP / "companions", *(it for it in (TOP / "deploy").iterdir() if it.name != "packaging")]
-    missing = [it.name for folder in folders for it in sorted(folder.iterdir())
-               if it.is_file() and not sources & {it, folder}]
+    listed = sources | {it.source for it in staging.listed(staging.REPLICAS)}
+    files = [it for folder in ("companions", "deploy") for it in sorted((TOP / folder).rglob("*")) if it.is_file()]
+    left_out = ("__pycache__", "packaging", "three")
+    missing = [str(it.relative_to(TOP)) for it in files if it.suffix != ".md" and not listed & {it, *it.parents}
+               and not any(part in left_out for part in it.parts)]
     judge("the list has each file of companions and deploy", not missing, missing)
     judge("each file of the list is there", all(it.exists() for it in sources))
     within = {it.relative_to(TOP).parts[0] for it in sources}
