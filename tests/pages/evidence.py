@@ -29,7 +29,7 @@ ROWS = [
     Row("adduser"),
     Row("cp -r companions/seals/office_seal"),
     Row("install -m 755 companions/seals/office-seal", prints=""),
-    Row("cp -r companions/office-.service.d"),
+    Row("cp -r deploy/systemd/office-.service.d"),
     Row("cp companions/seals/units/office-", then=units_are_taken),
     Row("ssh-keygen -q"),
     Row('echo "city', prints=""),

@@ -268,7 +268,7 @@ ROWS = [
     Row("adduser"),
     Row("mkdir -p /etc/office/etcd"),
     Row("cp -r companions/members/member"),
-    Row("cp -r companions/office-.service.d"),
+    Row("cp -r deploy/systemd/office-.service.d"),
     Row("cp companions/members/units/office-etcd.service"),
     Row("cp companions/members/units/office-etcd-defrag"),
     Row("cp companions/members/setup/etcd.conf"),

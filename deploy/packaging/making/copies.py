@@ -14,7 +14,7 @@ LIST = TOP / "deploy/packaging/copies"
 
 def script() -> ModuleType:
     """Loads office-copies, which knows what does not count as a change."""
-    loader = importlib.machinery.SourceFileLoader("office_copies", str(TOP / "companions/office-copies"))
+    loader = importlib.machinery.SourceFileLoader("office_copies", str(TOP / "deploy/packaging/office-copies"))
     spec = importlib.util.spec_from_loader("office_copies", loader)
     assert spec is not None
     module = importlib.util.module_from_spec(spec)

@@ -42,7 +42,7 @@ def tried(folder: pathlib.Path) -> None:
 
 def allowed() -> None:
     """The unit lets the gate ask whether the clock is synchronised."""
-    unit = TOP / "companions/gate/office-gate@.service"
+    unit = TOP / "companions/gate/units/office-gate@.service"
     code = f"import sys; sys.path[:0] = [{str(JOURNAL.parent)!r}]\nfrom office_gate import clock\n" \
            "clock.TIMESYNCD = None\nprint(clock.is_synchronised())"
     for what, words in (("without the unit", []), ("in the unit", [TOP / "tests/unit_filter.py", unit])):
