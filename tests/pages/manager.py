@@ -15,7 +15,7 @@ ROWS = [
     Row("./office apply manager.db examples/manager/"),
     Row("./office import manager.db 2024-01-12 examples/manager/03-records.csv"),
     Row("./office export manager.db"),
-    Row("OFFICE=./office companions/office-backup manager.db", prints=""),
+    Row("OFFICE=./office companions/copies/office-backup manager.db", prints=""),
     Row("./office resume manager.db"),
     Row("./office overdue manager.db"),
     Row("./office certificate manager.db"),

@@ -225,7 +225,7 @@ def closed(world: World, clock: Fake, days: int) -> None:
     """A future day is taken all the same: the monitor sees it, and the way out of the page makes it undone."""
     acting(world, f"before {days}", f"PRE{days}")
     copy = world.folder / f"copy{days}.db"
-    subprocess.run([TOP / "companions/office-backup", world.file, copy], check=True, capture_output=True)
+    subprocess.run([TOP / "companions/copies/office-backup", world.file, copy], check=True, capture_output=True)
     time.sleep(1)
     same("a record since", world.act("registry", filing(1000 + days, 1, b"since"))[0], 200)
     time.sleep(1)
@@ -247,7 +247,7 @@ def closed(world: World, clock: Fake, days: int) -> None:
     done = subprocess.run([PYTHON, "-I", JOURNAL, "replay", world.journal, copy, new, "--state", world.state, "--until", found],
                           capture_output=True, text=True, check=False)
     judge("the acts before it are done once more", done.returncode == 0, done.stdout + done.stderr)
-    words = [TOP / "companions/office-restore", world.file, new]
+    words = [TOP / "companions/copies/office-restore", world.file, new]
     done = subprocess.run(words, capture_output=True, text=True, check=False)
     if done.returncode == 1:
         done = subprocess.run([words[0], "--since-was-read", *words[1:]], capture_output=True, text=True, check=False)

@@ -14,11 +14,12 @@ from pathlib import Path
 from typing import TextIO
 
 sys.dont_write_bytecode = True
-sys.path.insert(0, str(Path(__file__).resolve().parents[1]))
+sys.path[:0] = [str(folder) for folder in Path(__file__).resolve().parents[1:3]
+                if (folder / "office_copies").is_dir() or (folder / "office_common").is_dir()]
 
 from office_common import command  # noqa: E402
 from office_common.errors import IMPOSSIBLE, Refused  # noqa: E402
-from office_lists.since_sections import Section, sections  # noqa: E402
+from office_copies.since_sections import Section, sections  # noqa: E402
 
 NAME = "office-since"
 COUNTS = """SELECT day(day) || ': ' || (SELECT count(*) FROM {0}.records) || ' records, '
