@@ -113,7 +113,7 @@ ROWS = [
     Row("mkdir -m 700 registers"),
     Row(f"office-overdue {city.FILE} registers", like=r"registers/overdue-\d{4}-\d\d-\d\d\.csv\n"),
     Row("office-awaiting city.db", like=r"sent,run,record,ref,class,schedule,length,sha256\n2022-05-02,1,19,BLD.*\n"),
-    Row("cp companions/city.mail"),
+    Row("cp companions/registers/city.mail"),
     Row(f"office-todo {city.FILE} registers", like=r"registers/todo-\d{4}-\d\d-\d\d\.txt\n"),
 ]
 

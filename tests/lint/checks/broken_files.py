@@ -31,7 +31,7 @@ BREAKS = (
     Break("tests/run", "", NO_PROGRAM, "python"),
     # Python and types
     Break("companions/office_common/child.py", "", "import base64", "pyflakes"),
-    Break("companions/office-awaiting", "", "print(never_named)", "pyflakes"),
+    Break("companions/registers/office-awaiting", "", "print(never_named)", "pyflakes"),
     Break("companions/seals/office_seal/chain.py", "", "def widened(number: int) -> str:\n    return number",
           "mypy", ("companions/seals/office_seal/chain.py", "    return number\n")),
     Break("tests/lint/known.txt", "mypy companions/seals/office_seal/stamping.py 1", "mypy companions/seals/office_seal/stamping.py 2",
@@ -89,7 +89,7 @@ BREAKS = (
     Break("companions/gate/city.access", "role registry may", "role registry mya", "access"),
     Break("companions/members/setup/city.json", '"listen": 8181', '"listen": "8181"', "members"),
     # the package
-    Break("deploy/packaging/files", "companions/office-yearend  ", "companions/office-yearends ", "lists"),
+    Break("deploy/packaging/files", "companions/registers/office-yearend  ", "companions/office-yearends ", "lists"),
     Break("companions/nowhere.py", "", "pass", "lists"),
     Break("companions/copies/office-prune", "# office-prune FOLDER|FILE\n#\n", "# office-prune FOLDER|FILE\n", "manual",
           ("companions/copies/office-prune", "# Removes copies whose time has come.")),

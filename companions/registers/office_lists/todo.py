@@ -14,7 +14,8 @@ from collections import Counter
 from collections.abc import Iterator
 
 sys.dont_write_bytecode = True
-sys.path.insert(0, str(pathlib.Path(__file__).resolve().parents[1]))
+sys.path[:0] = [str(folder) for folder in pathlib.Path(__file__).resolve().parents[1:3]
+                if (folder / "office_lists").is_dir() or (folder / "office_common").is_dir()]
 
 from office_common import command, files, program  # noqa: E402
 
