@@ -14,7 +14,7 @@ const wordsOf = (line) => line.split(/[\t;,]|\s{2,}|\s\*/).map((word) => word.tr
 /** The last part of a path, without the extension that a file may have. */
 const baseOf = (word) => word.replace(/^.*\//, "").replace(/\.[A-Za-z0-9]{1,5}$/, "");
 
-/** The number of a record in the name that tools/transfer gives to its content, as data/000004_MAP-1_Survey.txt. */
+/** The number of a record in the name that office-transfer gives to its content, as data/000004_MAP-1_Survey.txt. */
 const IN_BAG = /(?:^|\/)(?=\d{6})0*([1-9]\d*)_[^/]*(?:\/manifest\.txt)?$/;
 
 /** What a word may mean: itself, the name of a file without its folder and its extension, the number in such a name. */

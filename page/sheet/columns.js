@@ -5,7 +5,7 @@ import { Unreadable, stripped } from "./unreadable.js";
 export const NAMES = ["ref", "title", "originated", "aggregation", "class", "schedule", "content"];
 export const NEEDED = ["ref", "title", "originated", "aggregation"];
 /**
- * Other names that sheets have for them, as `plain` makes them: as in tools/spreadsheet/columns.py. The
+ * Other names that sheets have for them, as `plain` makes them: as in companions/sheets/spreadsheet/columns.py. The
  * labels of the page in both languages are among them.
  */
 export const SYNONYMS = {

@@ -1,4 +1,4 @@
-// Documents that the cells of a sheet name: what a cell names among those that somebody chose, as in tools/convert --files.
+// Documents that the cells of a sheet name: what a cell names among those that somebody chose, as in office-convert --files.
 import { LONGEST_CONTENT } from "./cells.js";
 import { Wrong } from "./unreadable.js";
 

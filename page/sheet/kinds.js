@@ -1,5 +1,5 @@
 // The kinds of acts that rows of a sheet may be: the columns of each, the names that sheets have for them, and words.
-// tools/spreadsheet/kinds.py has the same tables, and tests/import/cases/run compares both.
+// companions/sheets/spreadsheet/kinds.py has the same tables, and tests/import/cases/run compares both.
 import { RECORD, SYNONYMS, plain } from "./columns.js";
 
 /** The kind of a sheet whose rows are records. */

@@ -1,5 +1,5 @@
 // A sheet as rows of an import or of acts: what each row will be, and what is wrong with its cells. The command line has
-// the same in tools/convert, and tests/import/cases/run compares both.
+// the same in office-convert, and tests/import/cases/run compares both.
 import { turnActs } from "./acts.js";
 import { decoded } from "./bytes.js";
 import { codeCell, contentOf, inOneLine, noteOf, numberOf, textOf } from "./cells.js";

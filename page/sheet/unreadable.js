@@ -1,4 +1,4 @@
-// What keeps a sheet, or one of its cells, from being read: its kind in a word, as tools/spreadsheet has it.
+// What keeps a sheet, or one of its cells, from being read: its kind in a word, as companions/sheets/spreadsheet has it.
 
 /** The sheet cannot be read before somebody says more. */
 export class Unreadable extends Error {

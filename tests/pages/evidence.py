@@ -10,7 +10,7 @@ ssh-keygen -q -t ed25519 -N '' -f given
 companions/seals/office-seal fetch 8081 certificates
 companions/seals/office-seal sign --name city --key given certificates seals
 echo "city namespaces=\\"office-seal\\" $(cut -d ' ' -f 1,2 given.pub)" > city.signers
-tools/verify seals city.signers"""
+office-verify seals city.signers"""
 
 
 def is_first(shell: Shell) -> None:
@@ -41,8 +41,8 @@ ROWS = [
     Row("office-seal sign --restored", prints="seals: 0\n"),
     Row("office-seal sign --name city --key /etc/office/city.key certificates seals", prints="seals: 2\n"),
     Row("office-seal sign --name city --key /etc/office/city.key --withdrawn", prints="seals: 2\n"),
-    Row("tools/verify seals", like=r"seals: 2, certificates: 2, wrong: 0; office: city; last seal: 2, SHA-256 [0-9a-f]{64}\n"),
-    Row("tools/verify --withdrawn", like=r"(note: .*\n){4}seals: 4, certificates: 2, wrong: 0; .*\n"),
+    Row("office-verify seals", like=r"seals: 2, certificates: 2, wrong: 0; office: city; last seal: 2, SHA-256 [0-9a-f]{64}\n"),
+    Row("office-verify --withdrawn", like=r"(note: .*\n){4}seals: 4, certificates: 2, wrong: 0; .*\n"),
     Row("cut -d ' ' -f 1,2", prints=""),
     Row("mv /etc/office/city.new"),
     Row("echo 'STAMP_URL="),

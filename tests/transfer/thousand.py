@@ -17,7 +17,7 @@ from fake import digest
 from kit.companions import companion
 from kit.judging import judge
 from kit.office import Office
-from place import OFFICE, TOOLS, TOP, challenge_of, files_in, run
+from place import OFFICE, challenge_of, files_in, run
 
 COUNT = 1000
 ADDED, DUE, SENT = "2020-01-02", "2020-01-03", "2020-02-02"
@@ -102,7 +102,7 @@ def thousand(folder: pathlib.Path) -> None:
           and (folder / "catalogue/now/awaiting.json.gz").is_file(), done)
     judge("a thousand wait", [int(it["record"]) for it in waiting(file)] == list(range(1, COUNT + 1)))
     with Office(file) as office:
-        words = (TOOLS / "transfer", "--office", office.address, "--catalogue", folder / "catalogue/now", 1)
+        words = (companion("office-transfer"), "--office", office.address, "--catalogue", folder / "catalogue/now", 1)
         done = run(*words, bag)
         judge("the bag of a real office is made", (done.status, done.error) == (0, ""), done)
         judge("an independent reader and sha256sum find nothing wrong", reader.problems_of(str(bag)) == []
@@ -131,14 +131,14 @@ def receipts(folder: pathlib.Path, bag: pathlib.Path, office: Office, words: tup
     """The archive's list becomes acts, the office takes each of them, and the same list again makes none."""
     text, lacking, wanted = archives_list(bag)
     (folder / "list").write_text(text)
-    call = (TOOLS / "receipts", bag, folder / "list", "--by", BY, "--day", "2020-03-01", "-o", folder / "acts.json")
+    call = (companion("office-receipts"), bag, folder / "list", "--by", BY, "--day", "2020-03-01", "-o", folder / "acts.json")
     done = run(*call)
     acts = json.loads((folder / "acts.json").read_bytes())
     judge("each record that the archive has gets a receipt, and no other", done.status == 1
           and {it["record"] for it in acts} == wanted and len(acts) == len(wanted) == COUNT - len(lacking), done)
     judge("what is missing or differs is named", all(f"record {it}," in done.error for it in lacking)
           and "missing: 12, differing: 24, twice: 24, not used: 0" in done.error, done.error[-300:])
-    check = next(it for it in (TOOLS / "check", TOP / "examples/acts/check") if it.exists())
+    check = companion("office-check")
     said = run(check, folder / "acts.json")
     judge("the checker of acts takes them", said.status == 0 and f"acts: {len(wanted)}, wrong: 0" in said.out, said)
     conn = http.client.HTTPConnection("127.0.0.1", office.port, timeout=600)

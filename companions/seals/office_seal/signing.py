@@ -73,7 +73,7 @@ class Sealer:
         if there and now < there[-1].at and not self.was_clock_wrong:
             raise Refused(IMPOSSIBLE, f"the clock of this machine is at {now}, and seal {there[-1].number} at "
                                       f"{there[-1].at}: set the clock. If it was wrong then, --clock-was-wrong seals all "
-                                      "the same, and tools/verify reports the place")
+                                      "the same, and office-verify reports the place")
         return now
 
     def add(self, there: list[Seal], body: bytes, number: int, why: str) -> None:

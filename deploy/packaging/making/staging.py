@@ -13,6 +13,8 @@ from making.listed import DOC, DOC_REPLICAS, FILES, HERE, REPLICAS, listed
 from making.words import TOP, table
 
 UNITS = "lib/systemd/system"
+TOOLS = ("check", "convert", "intake", "receipts", "transfer", "verify")
+"""commands that lay in the documentation before: pages of then, and scripts of people, name them there"""
 # what the examples say of a machine without the package, and what is so with it
 PLACES = [("/usr/local/bin/", "/usr/bin/"), ("/usr/local/share/office", "/usr/share/office"),
           ("/usr/local/lib/office-replicas", "/usr/lib/office-replicas")]
@@ -101,14 +103,21 @@ def put_listed(top: pathlib.Path, of: str) -> None:
             put_file(file, top / folder / name / file.relative_to(source))
 
 
+def put_link(file: pathlib.Path, link: pathlib.Path) -> None:
+    """Puts a link to a file of the package."""
+    link.parent.mkdir(parents=True, exist_ok=True)
+    link.unlink(missing_ok=True)
+    link.symlink_to(os.path.relpath(file, link.parent))
+
+
 def put_links(top: pathlib.Path) -> None:
-    """Puts a link at the place that a file of the documentation has in the repository, which pages name it by."""
+    """Puts a link at the path of the repository by which pages name a file, and one where a tool was before."""
     for source, folder, name in listed():
         file, link = top / folder / name, top / DOC / source.relative_to(TOP)
         if file.is_relative_to(top / DOC) and link != file:
-            link.parent.mkdir(parents=True, exist_ok=True)
-            link.unlink(missing_ok=True)
-            link.symlink_to(os.path.relpath(file, link.parent))
+            put_link(file, link)
+    for tool in TOOLS:
+        put_link(top / "usr/bin" / f"office-{tool}", top / DOC / "tools" / tool)
 
 
 def stage_replicas(top: pathlib.Path, all_versions: list[Version], maintainer: str) -> None:

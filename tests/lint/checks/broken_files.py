@@ -26,7 +26,7 @@ BREAKS = (
     Break("companions/gate/office_gate/serving.py", "", NO_PROGRAM, "python"),
     Break("companions/vault/office_vault/objects.py", "", NO_PROGRAM, "python"),
     Break("companions/members/replica/log.py", "", NO_PROGRAM, "python"),
-    Break("tools/convert", "", NO_PROGRAM, "python"),
+    Break("companions/sheets/office-convert", "", NO_PROGRAM, "python"),
     Break("deploy/packaging/make", "", NO_PROGRAM, "python"),
     Break("tests/run", "", NO_PROGRAM, "python"),
     # Python and types
@@ -103,7 +103,7 @@ BREAKS = (
     Break("page/plain/forecast.js", 'row.held === null ? "destroy" : "skip"', 'row.held !== null ? "skip" : "destroy"',
           "mutants",
           ("tests/web/planted/forecast.mutants", "## a run is foreseen without its holds\n")),
-    Break("tools/transferring/folder.py", "            if is_free:", "            if is_unused:",
+    Break("companions/transfer/transferring/folder.py", "            if is_free:", "            if is_unused:",
           "tests/transfer/mutants --applies",
           ("tests/transfer/planted.mutants", "## one run takes away what another writes\n")),
 )

@@ -11,8 +11,8 @@ LISTS = {
     "tests/gate/mutants": ("tests/gate/planted/", "companions/gate/office_gate/"),
     "tests/vault/mutants": ("tests/vault/planted", "companions/vault/office_vault/"),
     "tests/web/mutants": ("tests/web/planted/", "page/"),
-    "tests/transfer/mutants": ("tests/transfer/planted", "tools/", "companions/office", "companions/seals/"),
-    "tests/intake/mutants": ("tests/intake/planted", "tools/intak"),
+    "tests/transfer/mutants": ("tests/transfer/planted", "companions/transfer/", "companions/seals/", "companions/registers/"),
+    "tests/intake/mutants": ("tests/intake/planted", "companions/sheets/intak", "companions/sheets/office-intake"),
     "tests/replicas/mutants": ("tests/replicas/planted/", "companions/members/replica/"),
 }
 """each list, and how the names of the files begin of which it knows"""

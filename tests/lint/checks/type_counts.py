@@ -35,7 +35,8 @@ GROUPS = (
     Group("companions", ".:copies:gate:registers:seals:serve:vault"),
     Group("companions/members", ".:.."),
     Group("deploy/packaging"),
-    Group("tools", ".:../companions"),
+    Group("companions/sheets", ".:.."),
+    Group("companions/transfer", ".:.."),
     Group("tests/lint", ".:.."),
     Group("tests", only=("tests/kit/",)),
 )

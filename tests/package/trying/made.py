@@ -111,10 +111,12 @@ def judge_completion(top: pathlib.Path) -> None:
 def judge_tools(top: pathlib.Path) -> None:
     """The tools of the pages work where the package puts them: a list of acts is read, and a sheet converted."""
     here = top / "usr/share/doc/office"
-    done = run(["python3", "-B", here / "tools/check", here / "examples/first/acts.json"])
-    judge("the package's tools/check reads a list", done.status == 0 and done.out.startswith("acts: 6, wrong: 0;"), done)
-    done = run(["python3", "-B", here / "tools/convert", here / "examples/import/letters.csv"])
-    judge("the package's tools/convert reads a sheet", done.status == 0 and done.out.count("\n") > 1, done)
+    done = run([top / "usr/bin/office-check", here / "examples/first/acts.json"])
+    judge("the package's office-check reads a list", done.status == 0 and done.out.startswith("acts: 6, wrong: 0;"), done)
+    done = run([here / "tools/check", here / "examples/first/acts.json"])
+    judge("at its place of before too", done.status == 0 and done.out.startswith("acts: 6, wrong: 0;"), done)
+    done = run([top / "usr/bin/office-convert", here / "examples/import/letters.csv"])
+    judge("the package's office-convert reads a sheet", done.status == 0 and done.out.count("\n") > 1, done)
 
 
 def judge_named(top: pathlib.Path) -> None:
@@ -139,7 +141,7 @@ def clone(place: pathlib.Path) -> pathlib.Path:
     top = place / "clone"
     out = top / "crates/office/out"
     out.mkdir(parents=True)
-    for name in ("companions", "deploy", "docs", "examples", "page", "tools"):
+    for name in ("companions", "deploy", "docs", "examples", "page"):
         shutil.copytree(TOP / name, top / name, ignore=shutil.ignore_patterns("__pycache__"))
     for name in ("office", "crates.txt", "README.md", "CHANGELOG.md"):
         shutil.copy(TOP / name, top)

@@ -83,7 +83,7 @@ def add_acting(parser: argparse.ArgumentParser) -> None:
 
 def words(arguments: list[str]) -> argparse.Namespace:
     about = "Makes the CSV that `office import` reads, or lists of acts, from the CSV of a spreadsheet program."
-    parser = argparse.ArgumentParser(prog="convert", allow_abbrev=False, description=about)
+    parser = argparse.ArgumentParser(prog="office-convert", allow_abbrev=False, description=about)
     parser.add_argument("sheet", type=pathlib.Path, nargs="+", help="the CSV file of the spreadsheet program")
     parser.add_argument("-o", dest="output", type=pathlib.Path, help="the file to write; without it, standard output")
     add_reading(parser)

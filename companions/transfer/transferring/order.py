@@ -58,5 +58,5 @@ def challenge_in(place: Path) -> str:
     except (OSError, UnicodeDecodeError) as why:
         raise Refused(USAGE, f"the order {place} cannot be read: {why}") from why
     if found is None:
-        raise Refused(USAGE, f"{place} is no order of tools/transfer: it has no challenge")
+        raise Refused(USAGE, f"{place} is no order of office-transfer: it has no challenge")
     return found[1]

@@ -39,7 +39,7 @@ def read(at: Path) -> list[Sent]:
     """Reads the tables of a bag or package, which must be those that its manifests seal."""
     base = next((at / it for it in PLACES if (at / it / "records.csv").is_file()), None)
     if base is None:
-        raise Refused(USAGE, f"{at} is no bag or package of tools/transfer: it lacks records.csv")
+        raise Refused(USAGE, f"{at} is no bag or package of office-transfer: it lacks records.csv")
     sealed = sealed_in(at)
     larges: dict[int, list[Part]] = {}
     if (base / "files.csv").is_file():

@@ -8,6 +8,7 @@ from transferring.markup import DECLARATION, element, text
 PREMIS = "http://www.loc.gov/premis/v3"
 XSI = "http://www.w3.org/2001/XMLSchema-instance"
 PROGRAM = "tools/transfer"
+"""the name by which packages have this program from the first one on"""
 
 
 def premis(files: list[File], of: Certificate) -> bytes:

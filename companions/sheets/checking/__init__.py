@@ -1,4 +1,1 @@
 """Reads lists of acts as the program reads them."""
-import floor
-
-floor.find()
