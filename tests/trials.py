@@ -112,7 +112,7 @@ TRIALS = [
           "program root spaces nginx etcd age zstd"),
     Trial("tests/launcher/run", "previews, the demo and the build of ./office; --kit: a fresh clone", "words web",
           LAUNCHER, 3),
-    Trial("tests/service_scripts/run", "the scripts of service on real offices", "service", SCRIPTS, 3),
+    Trial("tests/service_scripts/run", "the scripts of copies and registers on real offices", "service", SCRIPTS, 3),
     Trial("tests/office_serve/run", "a stop of the service loses nothing", "service words", SERVE, 5),
     Trial("tests/transfer/run", "bags, packages, receipts of a list, seals of certificates", "service", TOOLS, 8),
     Trial("tests/transfer/mutants", "wrong tools and services are found by the trial before", "service", TOOLS, 25),

@@ -1,4 +1,4 @@
-"""Real offices and the scripts of service: what the parts of tests/service_scripts share."""
+"""Real offices, and the scripts of copies and registers: what the parts of tests/service_scripts share."""
 import base64
 import hashlib
 import json
