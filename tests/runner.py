@@ -29,14 +29,14 @@ PARTS = {
     "contract": "any clause, comment or mutant",
     "memory": "office_machine, and what it stands on but office_base and office_days",
     "tables": "office_sql, office_store, office_desk",
-    "wire": "office_json, office_csv, office_http, office_wire, tools",
+    "wire": "office_json, office_csv, office_http, office_wire, companions/sheets",
     "words": "all other crates",
-    "service": "service, docs/SERVICE.md, docs/BACKUP.md, docs/WATCHING.md",
+    "service": "companions, deploy, docs/SERVICE.md, docs/BACKUP.md, docs/WATCHING.md",
     "pages": "README.md and docs",
-    "web": "web, docs/openapi.yaml, docs/ERRORS.md",
-    "vault": "service/vault, docs/VAULT.md",
-    "package": "packaging, service, tools, CHANGELOG.md",
-    "replicas": "replicas, service/replicas, docs/REPLICAS.md",
+    "web": "page, docs/openapi.yaml, docs/ERRORS.md",
+    "vault": "companions/vault, docs/VAULT.md",
+    "package": "companions, deploy, CHANGELOG.md",
+    "replicas": "companions/members, docs/REPLICAS.md",
 }
 TAIL, JUDGED = 20, 40
 """how many lines of a failed trial are printed: of its end, and of what failed"""

@@ -1,5 +1,6 @@
-"""A model of the office in plain Python, and what the fuzzer sends; the forms of acts are those that tools/check reads."""
+"""A model of the office in plain Python, and what the fuzzer sends; the forms of acts are those that office-check reads."""
 import pathlib
 import sys
 
-sys.path.append(str(pathlib.Path(__file__).resolve().parent.parent.parent / "tools"))
+COMPANIONS = pathlib.Path(__file__).resolve().parents[2] / "companions"
+sys.path += [str(COMPANIONS / "sheets"), str(COMPANIONS)]

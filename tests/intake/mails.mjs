@@ -1,4 +1,4 @@
-// Writes the day and the subject of each mail that the page finds: node mails.mjs FOLDER, which has web/plain.
+// Writes the day and the subject of each mail that the page finds: node mails.mjs FOLDER, which has page/plain.
 import { readFileSync } from "node:fs";
 import { pathToFileURL } from "node:url";
 

@@ -14,7 +14,7 @@ from typing import Any
 from kit.waiting import comes
 
 TOP = pathlib.Path(__file__).resolve().parents[2]
-SITES = TOP / "service/nginx"
+SITES = TOP / "deploy/nginx"
 MODULE = "/usr/lib/nginx/modules/ngx_http_js_module.so"
 TEMPORARY = ("client_body", "proxy", "fastcgi", "uwsgi", "scgi")
 """what nginx writes into files of its own"""
@@ -75,7 +75,7 @@ def end(process: subprocess.Popen[Any]) -> None:
 
 
 class Sites:
-    """The files of service/nginx in a folder, with places of this trial for those that they name."""
+    """The files of deploy/nginx in a folder, with places of this trial for those that they name."""
 
     def __init__(self, folder: pathlib.Path, port: int, places: Mapping[str, str]) -> None:
         folder.mkdir(parents=True)

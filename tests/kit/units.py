@@ -6,7 +6,7 @@ import shutil
 from collections.abc import Iterator
 
 TOP = pathlib.Path(__file__).resolve().parents[2]
-FOLDERS = tuple(TOP / folder for folder in ("service", "service/gate", "service/vault", "service/replicas"))
+FOLDERS = (TOP / "deploy/systemd", *sorted(TOP.glob("companions/*/units")))
 SUFFIXES = (".service", ".timer", ".socket")
 LAID_TWICE = {"office@.service.d": "office-.service.d"}
 """folders of drop-ins that a machine has too, each with the one whose files are in it"""

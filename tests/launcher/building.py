@@ -14,7 +14,7 @@ from pages.commands import TOP
 from kit.judging import judge
 from pages.shell import PROGRAM
 
-sys.path.append(str(TOP / "packaging"))
+sys.path.append(str(TOP / "deploy/packaging"))
 
 from making.words import table  # noqa: E402
 

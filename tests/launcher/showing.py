@@ -72,8 +72,8 @@ def judge_words(clone: Clone) -> None:
 def judge_page() -> None:
     """What nginx would serve: the page's files, and nothing beside them."""
     status, kind, body = asked("GET", "/web/")
-    judge("the page is there", (status, kind, body) == (200, "text/html", (TOP / "web/index.html").read_bytes()), f"{status} {kind}")
-    for file in (it for it in (TOP / "web").rglob("*") if it.is_file()):
+    judge("the page is there", (status, kind, body) == (200, "text/html", (TOP / "page/index.html").read_bytes()), f"{status} {kind}")
+    for file in (it for it in (TOP / "page").rglob("*") if it.is_file()):
         status, kind, body = asked("GET", f"/{file.relative_to(TOP)}")
         wanted = {".js": "javascript", ".json": "json", ".css": "css", ".svg": "svg", ".html": "html"}[file.suffix]
         judge(f"{file.relative_to(TOP)} is there", status == 200 and wanted in kind and body == file.read_bytes(), f"{status} {kind}")

@@ -7,7 +7,8 @@ import socket
 import subprocess
 import time
 
-from service_scripts.place import OFFICE, SECONDS, SERVICE
+from service_scripts.place import OFFICE, SECONDS
+from kit.companions import companion
 from kit.office import start
 from kit.ports import free_port
 from kit.waiting import comes
@@ -76,7 +77,7 @@ class Served:
         count = words[words.index("--count") + 1] if "--count" in words else "1000000"
 
         def command(port: int) -> list[object]:
-            return [OFFICE, "serve", file, port, count] if self.bare else [SERVICE / "office-serve", *words, file, port]
+            return [OFFICE, "serve", file, port, count] if self.bare else [companion("office-serve"), *words, file, port]
 
         env = {**os.environ, "OFFICE": OFFICE}
         if waits:

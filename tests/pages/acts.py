@@ -21,9 +21,9 @@ def is_late(shell: Shell) -> None:
 
 
 ROWS = [
-    Row("tools/check examples/first/acts.json"),
-    Row("tools/check --late examples/first/acts.json"),
-    Row("OFFICE=./office service/office-backup first.db copy.db", prints=""),
+    Row("office-check examples/first/acts.json"),
+    Row("office-check --late examples/first/acts.json"),
+    Row("OFFICE=./office companions/copies/office-backup first.db copy.db", prints=""),
     Row("sqlite3 copy.db", then=is_late),
 ]
 

@@ -17,9 +17,9 @@ ALL = {"records": 33}
 
 def unit_words() -> str:
     """How the unit calls the program, for the office city."""
-    unit = (TOP / "service/office@.service").read_text()
+    unit = (TOP / "deploy/systemd/office@.service").read_text()
     words = re.search(r"^ExecStart=/usr/local/bin/(.*)$", unit, re.M)[1].replace("%i", "city")
-    for name, value in re.findall(r"^(\w+)=(\w+)$", (TOP / "service/city.conf").read_text(), re.M):
+    for name, value in re.findall(r"^(\w+)=(\w+)$", (TOP / "deploy/systemd/city.conf").read_text(), re.M):
         words = words.replace(f"${{{name}}}", value)
     return words
 

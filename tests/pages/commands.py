@@ -41,7 +41,7 @@ def joined(lines: list[str]) -> list[str]:
 def is_program(word: str) -> bool:
     """Whether a block whose first word is this has commands."""
     return word in PROGRAMS or re.fullmatch(
-        r"[A-Z_]+=\d+|/usr/lib/office-\S+|(\./)?((examples|replicas|service|tools)/\S+|office(-[a-z]+)*)", word) is not None
+        r"[A-Z_]+=\d+|/usr/lib/office-\S+|(\./)?((companions|deploy|examples)/\S+|office(-[a-z]+)*)", word) is not None
 
 
 def commands(page: str) -> list[Command]:

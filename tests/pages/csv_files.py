@@ -27,7 +27,7 @@ def has(name: str, columns: str, table: str) -> Callable[[Shell], None]:
 ROWS = [
     Row("./office apply letters.db examples/import/office.json"),
     Row("./office import letters.db 2024-01-02 examples/import/letters.csv"),
-    Row("tools/convert examples/import/unicode_text.txt -o records.csv"),
+    Row("office-convert examples/import/unicode_text.txt -o records.csv"),
     Row("./office import letters.db 2024-01-02 records.csv"),
     Row("./office export letters.db 2027-06-01 > due.csv", prints="", then=has("due.csv", DUE, "records")),
     Row("./office overdue letters.db 2027-07-02 30 > overdue.csv", prints="",

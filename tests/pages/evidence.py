@@ -7,10 +7,10 @@ PAGE = "docs/EVIDENCE.md"
 # what the office gives to the auditor of the page's first part
 GIVEN = """mkdir -p /etc/office /usr/local/lib/office certificates seals
 ssh-keygen -q -t ed25519 -N '' -f given
-service/office-seal fetch 8081 certificates
-service/office-seal sign --name city --key given certificates seals
+companions/seals/office-seal fetch 8081 certificates
+companions/seals/office-seal sign --name city --key given certificates seals
 echo "city namespaces=\\"office-seal\\" $(cut -d ' ' -f 1,2 given.pub)" > city.signers
-tools/verify seals city.signers"""
+office-verify seals city.signers"""
 
 
 def is_first(shell: Shell) -> None:
@@ -27,11 +27,10 @@ ROWS = [
     Row("ssh-keygen -Y verify", like=r'Good "office-seal" signature for city with ED25519 key SHA256:\S+\n'),
     Row("sha256sum seals/", like=r"[0-9a-f]{64}  seals/000001/certificate-1\.txt\n", then=is_first),
     Row("adduser"),
-    Row("cp -r service/office_seal"),
-    Row("install -m 755 service/office-seal", prints=""),
-    Row("cp -r service/office-.service.d"),
-    Row("cp service/office-certificates@.service"),
-    Row("cp service/office-seal@.service", then=units_are_taken),
+    Row("cp -r companions/seals/office_seal"),
+    Row("install -m 755 companions/seals/office-seal", prints=""),
+    Row("cp -r deploy/systemd/office-.service.d"),
+    Row("cp companions/seals/units/office-", then=units_are_taken),
     Row("ssh-keygen -q"),
     Row('echo "city', prints=""),
     Row("ssh-keygen -l", like=r"256 SHA256:\S+ office city, first key \(ED25519\)\n"),
@@ -42,8 +41,8 @@ ROWS = [
     Row("office-seal sign --restored", prints="seals: 0\n"),
     Row("office-seal sign --name city --key /etc/office/city.key certificates seals", prints="seals: 2\n"),
     Row("office-seal sign --name city --key /etc/office/city.key --withdrawn", prints="seals: 2\n"),
-    Row("tools/verify seals", like=r"seals: 2, certificates: 2, wrong: 0; office: city; last seal: 2, SHA-256 [0-9a-f]{64}\n"),
-    Row("tools/verify --withdrawn", like=r"(note: .*\n){4}seals: 4, certificates: 2, wrong: 0; .*\n"),
+    Row("office-verify seals", like=r"seals: 2, certificates: 2, wrong: 0; office: city; last seal: 2, SHA-256 [0-9a-f]{64}\n"),
+    Row("office-verify --withdrawn", like=r"(note: .*\n){4}seals: 4, certificates: 2, wrong: 0; .*\n"),
     Row("cut -d ' ' -f 1,2", prints=""),
     Row("mv /etc/office/city.new"),
     Row("echo 'STAMP_URL="),

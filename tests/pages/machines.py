@@ -109,7 +109,7 @@ class Machines:
         path = SETTINGS
         user: list[str] = []
         if number == 1:
-            unit = (TOP / "service/replicas/office-member@.service").read_text()
+            unit = (TOP / "companions/members/units/office-member@.service").read_text()
             words = re.search("^ExecStart=(.*)$", unit, re.M)[1].replace("%i", "city").split()
             user = ["setpriv", "--reuid", "office", "--regid", "office", "--init-groups"]
         else:

@@ -9,7 +9,7 @@ from pages.files import FIRST, alone
 from kit.judging import judge
 from pages.shell import Shell
 
-sys.path.append(str(TOP / "packaging"))
+sys.path.append(str(TOP / "deploy/packaging"))
 
 from making.words import table  # noqa: E402
 

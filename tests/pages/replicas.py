@@ -16,7 +16,7 @@ STEP = "curl --fail --silent --retry 20 --header 'Idempotency-Key: 7f0c' --data 
 MADE = """machine 1: settings in three/m1/settings.json, etcd at 127.0.0.1:9001
 machine 2: settings in three/m2/settings.json, etcd at 127.0.0.1:9002
 machine 3: settings in three/m3/settings.json, etcd at 127.0.0.1:9003
-replicas/found three/m1/settings.json
+companions/members/found three/m1/settings.json
 founded city
 cp -r three/m1/snapshots three/m2/
 cp -r three/m1/snapshots three/m3/
@@ -66,10 +66,10 @@ def prepare_nginx(shell: Shell) -> None:
     """What docs/SERVICE.md does for one office, at the port of the member."""
     for command in (
             "mkdir -p /etc/nginx/office /var/log/office /etc/nginx/sites-available",
-            "cp service/nginx/http.conf service/nginx/server.conf service/nginx/actors.conf /etc/nginx/office/",
-            "cp service/nginx/vault.conf service/nginx/vaults.conf /etc/nginx/office/",
-            "cp service/nginx/acts.js /etc/nginx/office/",
-            "sed 's/8080/8181/' service/nginx/office.conf > /etc/nginx/sites-available/office",
+            "cp deploy/nginx/http.conf deploy/nginx/server.conf deploy/nginx/actors.conf /etc/nginx/office/",
+            "cp deploy/nginx/vault.conf deploy/nginx/vaults.conf /etc/nginx/office/",
+            "cp deploy/nginx/acts.js /etc/nginx/office/",
+            "sed 's/8080/8181/' deploy/nginx/office.conf > /etc/nginx/sites-available/office",
             "ln -sf ../sites-available/office /etc/nginx/sites-enabled/office",
             "rm -f /etc/nginx/sites-enabled/default",
             "openssl req -x509 -newkey ec -pkeyopt ec_paramgen_curve:P-256 -nodes -days 9 -subj /CN=localhost "
@@ -116,7 +116,7 @@ def third_was_stolen(shell: Shell) -> None:
     HERE.start_member(1)
     listed = shell.run("openssl crl -in /etc/office/etcd/ca.crl -noout -text")
     judge(f"{PAGE}: the list has one certificate", listed.out.count("Serial Number") == 1, listed.out)
-    done = shell.run("service/replicas/certificates certificates archive3=192.0.2.13")
+    done = shell.run("companions/members/setup/certificates certificates archive3=192.0.2.13")
     judge(f"{PAGE}: archive3 gets a new key", done.out == "archive3: made\n", done.out + done.err)
     HERE.kill(3)
     HERE.start_etcd(3, "existing")
@@ -212,7 +212,7 @@ def is_copy(shell: Shell) -> None:
     judge(f"{PAGE}: the copy is an office, with its certificate", done.out == "version 2\nCERTIFICATE 1\n", f"{done}")
     snapshot_now(shell, HOLD)
     # the scripts are where docs/SERVICE.md puts them
-    shell.run("install -m 755 $(ls -d service/office-* | grep -v @) /usr/local/bin/")
+    shell.run("install -m 755 $(ls -d companions/office-* | grep -v @) /usr/local/bin/")
 
 
 def is_compared(shell: Shell) -> None:
@@ -250,15 +250,15 @@ def is_step_once(shell: Shell) -> None:
 
 
 ROWS = [
-    Row("service/replicas/three make three", prints=MADE),
-    Row("service/replicas/three start three 1", prints=""),
-    Row("service/replicas/three start three", prints=""),
+    Row("companions/members/setup/three make three", prints=MADE),
+    Row("companions/members/setup/three start three 1", prints=""),
+    Row("companions/members/setup/three start three", prints=""),
     Row("curl --silent --data-binary @examples/first/acts.json", like=FIRST_ANSWERS),
-    Row("service/replicas/three kill three 1"),
+    Row("companions/members/setup/three kill three 1"),
     Row("curl --fail --silent --retry 20 --header 'Office-Read: newest'", like=r'\{"added":"2022-01-03",.*\}'),
     Row(f"{STEP} http://127.0.0.1:8093", prints='[{"outcome":"destroyed","record":1}]'),
     Row(f"{STEP} http://127.0.0.1:8091", prints='[{"outcome":"destroyed","record":1}]', then=is_step_once),
-    Row("service/replicas/three stop three"),
+    Row("companions/members/setup/three stop three"),
     Row("apt-get", skip="the packages are there"),
     Row("office-replicas-setup", skip="tests/replicas/package calls it"),
     Row("office-replicas-renew", skip="tests/replicas/package calls it"),
@@ -267,17 +267,17 @@ ROWS = [
     Row("./office install /usr/local/bin"),
     Row("adduser"),
     Row("mkdir -p /etc/office/etcd"),
-    Row("cp -r replicas/member"),
-    Row("cp -r service/office-.service.d"),
-    Row("cp service/replicas/office-etcd.service"),
-    Row("cp service/replicas/office-etcd-defrag.service"),
-    Row("cp service/replicas/etcd.conf"),
-    Row("install -m 755 service/replicas/office-etcdctl"),
+    Row("cp -r companions/members/member"),
+    Row("cp -r deploy/systemd/office-.service.d"),
+    Row("cp companions/members/units/office-etcd.service"),
+    Row("cp companions/members/units/office-etcd-defrag"),
+    Row("cp companions/members/setup/etcd.conf"),
+    Row("install -m 755 companions/members/setup/office-etcdctl"),
     Row("install -d -m 755 /var/lib/office-member"),
     Row("install -d -o office-member -g office-member -m 700"),
     Row("systemd-analyze verify"),
-    Row("service/replicas/certificates certificates revoke", prints="archive3: revoked\n"),
-    Row("service/replicas/certificates certificates", prints="archive1: made\narchive2: made\narchive3: made\n"),
+    Row("companions/members/setup/certificates certificates revoke", prints="archive3: revoked\n"),
+    Row("companions/members/setup/certificates certificates", prints="archive1: made\narchive2: made\narchive3: made\n"),
     Row("install -m 644 certificates/ca.crt"),
     Row("install -m 644 certificates/ca.crl"),
     Row("install -m 644 certificates/archive1.crt"),
@@ -297,11 +297,11 @@ ROWS = [
         then=prepare_nginx),
     Row("runuser -u office -- curl --silent --fail http://127.0.0.1:8181/metrics", like=r"# HELP office_member_answers .*"),
     Row("runuser -u office-member -- /usr/local/lib/office-replicas/refuse", skip="no entry fails here"),
-    Row("cp service/replicas/nginx.conf"),
+    Row("cp companions/members/setup/nginx.conf"),
     Row("sed -i '$a include"),
     Row("sed -i 's|proxy_pass_request_body"),
     Row("nginx -t", then=nginx_passes_keys),
-    Row("cp service/replicas/office-member.nft", then=rules_load),
+    Row("cp companions/members/setup/office-member.nft", then=rules_load),
     Row("nft -f /etc/office-member.nft", skip="these rules would close the port that is asked next"),
     Row("echo 'include \"/etc/office-member.nft\"' >> /etc/nftables.conf"),
     Row("office-etcdctl alarm list", prints=""),
@@ -342,4 +342,4 @@ def run(shell: Shell) -> None:
         run_page(shell, PAGE, ROWS)
     finally:
         HERE.end()
-        subprocess.run(["service/replicas/three", "stop", "three"], cwd=shell.folder, check=False)
+        subprocess.run(["companions/members/setup/three", "stop", "three"], cwd=shell.folder, check=False)

@@ -10,7 +10,7 @@ from pages.commands import TOP
 PROGRAM = pathlib.Path(os.environ.get("OFFICE", TOP / "crates/office/out/office")).resolve()
 SECONDS = 300
 # what the commands of the pages name
-FOLDERS = ("examples", "replicas", "service", "tools", "web")
+FOLDERS = ("companions", "deploy", "examples", "page")
 
 
 class Done(NamedTuple):
@@ -43,8 +43,10 @@ class Shell:
         launcher(folder)
         for name in ("copies", "second", "DIR"):
             (folder / name).mkdir()
-        self.env = {**os.environ, "http": "http://127.0.0.1:8080", "PASSWORD": "a long one",
-                    "MONITOR": "another long one", "LC_ALL": "C"}
+        # the commands that users run are on the PATH of a machine
+        commands = [str(folder / "companions" / name) for name in ("sheets", "transfer")]
+        self.env = {**os.environ, "PATH": ":".join([*commands, os.environ["PATH"]]), "http": "http://127.0.0.1:8080",
+                    "PASSWORD": "a long one", "MONITOR": "another long one", "LC_ALL": "C"}
         self.servers: list[subprocess.Popen[bytes]] = []
         # what is taken off the mode of a new file; -1: as this script's
         self.umask = -1

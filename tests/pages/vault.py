@@ -72,13 +72,10 @@ def restored(shell: Shell) -> None:
 ROWS = [
     Row("adduser --system --group --no-create-home --home /nonexistent office-vault"),
     Row("adduser office-vault office-read"),
-    Row("cp -r service/vault/office_vault"),
-    Row("install -m 755 service/vault/office-vault"),
-    Row("cp -r service/office-.service.d"),
-    Row("cp service/vault/office-vault@.service"),
-    Row("cp service/vault/office-vault-sweep@"),
-    Row("cp service/vault/office-vault-check@"),
-    Row("cp service/vault/office-vault-mirror@", then=units_are_taken),
+    Row("cp -r companions/vault/office_vault"),
+    Row("install -m 755 companions/vault/office-vault"),
+    Row("cp -r deploy/systemd/office-.service.d"),
+    Row("cp companions/vault/units/office-vault", then=units_are_taken),
     Row("install -d -m 755 /var/lib/office-vaults"),
     Row("install -d -o office-vault -g www-data -m 2750"),
     Row("runuser -u office-vault -- office-vault make /var/lib/office-vaults/city", prints="", then=serve),
@@ -96,8 +93,8 @@ ROWS = [
 def run(shell: Shell) -> None:
     shell.run("mkdir -p /usr/local/lib/office; id office || adduser --system --group --no-create-home office; addgroup --system office-read; adduser --system --group --no-create-home office-vault; install -d -o office-vault /var/lib/vault-trial")
     shell.run("head -c 300032 /dev/urandom > scan.pdf; head -c 800000 /dev/urandom > plan.tif")
-    shell.run("install -m 755 service/office-serve /usr/local/bin; ./office init city.db")
-    shell.serve("service/office-serve --readings /run/office/city/readings city.db 8081")
+    shell.run("install -m 755 companions/serve/office-serve /usr/local/bin; ./office init city.db")
+    shell.serve("companions/serve/office-serve --readings /run/office/city/readings city.db 8081")
     run_page(shell, PAGE, ROWS)
     shell.end(kill=True)
     shell.end(kill=True)

@@ -75,7 +75,7 @@ def has_backup(shell: Shell) -> None:
 def fewer_are_seen(shell: Shell) -> None:
     """A copy of a new office after one of the right office."""
     shell.run(f"office init {BACKUPS}/20250104T023000Z.db; rm -f {BACKUPS}/*-wal")
-    done = shell.run(f"service/monitor/fewer {BACKUPS}")
+    done = shell.run(f"deploy/monitor/fewer {BACKUPS}")
     judge("a copy with fewer records than the one before is told", done.status == 1
           and done.out.startswith("records: 0 in "), f"{done}")
     shell.run(f"rm {BACKUPS}/20250104T023000Z.db")
@@ -96,12 +96,12 @@ ROWS = [
     Row("chmod 640 /etc/nginx/office/monitor.htpasswd", then=asks_alone),
     Row("install -m 640 -g prometheus", skip=MISSING),
     Row("printf %s \"$MONITOR\"", skip=MISSING),
-    Row("cp service/monitor/blackbox.yml", skip=MISSING),
+    Row("cp deploy/monitor/blackbox.yml", skip=MISSING),
     Row("echo 'ARGS=", skip=MISSING),
     Row("systemctl restart prometheus-blackbox-exporter", skip="without systemd", then=exporter_starts),
     Row("curl --silent 'http://127.0.0.1:9115/probe", skip=MISSING, prints="probe_success 1\n", then=is_probed),
     Row("systemctl is-active", skip="without systemd", then=has_backup),
-    Row("service/monitor/fewer", prints="", then=fewer_are_seen),
+    Row("deploy/monitor/fewer", prints="", then=fewer_are_seen),
     Row("find /var/lib/office/city -name '*.before-*Z'", prints=""),
     Row("find /var/lib/office-backups/city -name '*Z.db' -mmin", like=r"\S+/city/20250103T023000Z\.db\n"),
     Row("sqlite3 \"file:$(ls -t /var/lib/office-backups", prints="", then=run_is_seen),
@@ -113,7 +113,7 @@ ROWS = [
     Row("mkdir -m 700 registers"),
     Row(f"office-overdue {city.FILE} registers", like=r"registers/overdue-\d{4}-\d\d-\d\d\.csv\n"),
     Row("office-awaiting city.db", like=r"sent,run,record,ref,class,schedule,length,sha256\n2022-05-02,1,19,BLD.*\n"),
-    Row("cp service/city.mail"),
+    Row("cp companions/registers/city.mail"),
     Row(f"office-todo {city.FILE} registers", like=r"registers/todo-\d{4}-\d\d-\d\d\.txt\n"),
 ]
 

@@ -17,7 +17,7 @@ from replicas.networks import socket_in
 
 TOP = pathlib.Path(__file__).resolve().parent.parent.parent
 OFFICE = str(pathlib.Path(os.environ.get("OFFICE", TOP / "crates/office/out/office")).resolve())
-REPLICAS = pathlib.Path(os.environ.get("REPLICAS", TOP / "replicas")).resolve()
+REPLICAS = pathlib.Path(os.environ.get("REPLICAS", TOP / "companions/members")).resolve()
 """the program of a member"""
 LONGEST_WAIT = float(os.environ.get("TRIAL_PATIENCE", "900"))
 FAULTS = (OSError, http.client.HTTPException, ValueError)

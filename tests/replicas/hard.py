@@ -19,7 +19,7 @@ from replicas.posting import begun, get, halts, post, posted, record
 from replicas.verdict import same_rows
 
 
-EXAMPLES = TOP / "service/replicas"
+SETUP, UNITS = TOP / "companions/members/setup", TOP / "companions/members/units"
 
 
 def no_quorum(cluster: Cluster) -> None:
@@ -198,9 +198,9 @@ def wrong_file(cluster: Cluster) -> None:
 
 
 def secured(cluster: Cluster) -> None:
-    """etcd asks for certificates of the script of service/replicas."""
+    """etcd asks for certificates of the script of companions/members/setup."""
     cluster.tls = cluster.folder / "certificates"
-    subprocess.run([EXAMPLES / "certificates", cluster.tls, *(f"m{it}=127.0.0.1" for it in range(3))], check=True,
+    subprocess.run([SETUP / "certificates", cluster.tls, *(f"m{it}=127.0.0.1" for it in range(3))], check=True,
                    stdout=subprocess.DEVNULL, stderr=subprocess.DEVNULL)
     begun(cluster)
     judge("certificates: members work with them",
@@ -230,7 +230,7 @@ def stolen(cluster: Cluster, folder: pathlib.Path) -> None:
              "--key", f"{folder}/stolen.key", f"{cluster.etcd_address(0)}/v3/kv/range", "-d", '{"key":"AA=="}']
     before = subprocess.run(words, capture_output=True, text=True, check=False)
     cluster.kill("member2", "etcd2")
-    done = subprocess.run([EXAMPLES / "certificates", folder, "revoke", "m2"], capture_output=True, text=True,
+    done = subprocess.run([SETUP / "certificates", folder, "revoke", "m2"], capture_output=True, text=True,
                           check=False)
     judge("stolen: the script revokes its certificate, and takes its key away",
           done.stdout == "m2: revoked\n" and not (folder / "m2.key").exists(), done)
@@ -241,7 +241,7 @@ def stolen(cluster: Cluster, folder: pathlib.Path) -> None:
     after = subprocess.run(words, capture_output=True, text=True, check=False)
     judge("stolen: with its key etcd answered before, and does not afterwards",
           reply.status == 200 and before.returncode == 0 and after.returncode != 0, (before, after))
-    subprocess.run([EXAMPLES / "certificates", folder, "m2=127.0.0.1"], check=True, capture_output=True)
+    subprocess.run([SETUP / "certificates", folder, "m2=127.0.0.1"], check=True, capture_output=True)
     cluster.start_etcd(2)
     cluster.start_member(2)
     cluster.wait_for(2, cluster.position(0))
@@ -250,8 +250,8 @@ def stolen(cluster: Cluster, folder: pathlib.Path) -> None:
 
 def units(cluster: Cluster) -> None:
     """Etcd and members with the system calls that their units allow, and no others."""
-    cluster.units = {"etcd": EXAMPLES / "office-etcd.service",
-                     "member": EXAMPLES / "office-member@.service"}
+    cluster.units = {"etcd": UNITS / "office-etcd.service",
+                     "member": UNITS / "office-member@.service"}
     begun(cluster)
     cluster.make_snapshot(1)
     cluster.kill("member1", "etcd1")

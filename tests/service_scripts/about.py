@@ -5,10 +5,10 @@ import os
 import pathlib
 import sys
 
-from service_scripts.place import FIRST, LAST, NOBODY, OFFICE, SERVICE, apply, made, run, script
+from service_scripts.place import FIRST, LAST, NOBODY, OFFICE, TOP, apply, made, run, script
 from kit.judging import judge
 
-sys.path.insert(0, str(SERVICE / "gate"))
+sys.path.insert(0, str(TOP / "companions/gate"))
 from office_gate.chain import START, linked  # noqa: E402
 
 TITLES = {"m1": "Letter of Anna Müller", "m2": "Invoice MUELLER 2024", "x1": "Letter of B. Mullen",

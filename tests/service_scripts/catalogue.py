@@ -8,8 +8,9 @@ import signal
 import subprocess
 import time
 
-from service_scripts.place import (FIRST, LAST, NOBODY, OFFICE, RECORDS, SERVICE, Served, apply, made, path_with, run,
+from service_scripts.place import (FIRST, LAST, NOBODY, OFFICE, RECORDS, Served, apply, made, path_with, run,
                            run_acts, script)
+from kit.companions import companion
 from kit.judging import judge
 from kit.waiting import comes
 
@@ -117,7 +118,7 @@ def refused(folder: pathlib.Path, file: pathlib.Path, copy: pathlib.Path, place:
             judge(f"of {name} none is made", status == 1 and sorted(place.rglob("*")) == stands, error.strip())
     finally:
         served.end()
-    killed = subprocess.Popen([SERVICE / "office-catalogue", copy, place], user=NOBODY, group=NOBODY, extra_groups=[],
+    killed = subprocess.Popen([companion("office-catalogue"), copy, place], user=NOBODY, group=NOBODY, extra_groups=[],
                               env={**os.environ, "PATH": slow}, start_new_session=True)
     began = comes(asking.exists)
     killed.kill()

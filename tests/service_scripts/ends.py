@@ -7,8 +7,9 @@ import shutil
 import subprocess
 import time
 
-from service_scripts.place import (NOBODY, OFFICE, SECONDS, SERVICE, Served, counted, made, mode_of, path_with, run, script,
+from service_scripts.place import (NOBODY, OFFICE, SECONDS, Served, counted, made, mode_of, path_with, run, script,
                            text_of)
+from kit.companions import companion
 from kit.judging import judge
 from kit.waiting import comes, next_second
 
@@ -31,7 +32,7 @@ def leftovers(folder: pathlib.Path, file: pathlib.Path) -> None:
     goes, copying = folder / "goes", folder / "slow-cp/copying"
     slow = path_with(folder / "slow-cp", "cp", f": >{copying}\nwhile ! [ -e {goes} ]; do sleep 0.1; done\nexec /bin/cp \"$@\"")
     copying.parent.chmod(0o777)
-    words = [SERVICE / "office-backup", file, copies / "slow.db"]
+    words = [companion("office-backup"), file, copies / "slow.db"]
     at_work = subprocess.Popen(words, user=NOBODY, group=NOBODY, extra_groups=[], stderr=subprocess.DEVNULL,
                                env={**os.environ, "PATH": slow, "OFFICE": OFFICE, "OFFICE_PAUSE": str(SECONDS)})
     comes(copying.exists)

@@ -9,7 +9,8 @@ import os
 import pathlib
 import shutil
 
-from service_scripts.place import NOBODY, OFFICE, SERVICE, made, run, script
+from service_scripts.place import NOBODY, OFFICE, made, run, script
+from kit.companions import companion
 from kit.judging import judge
 
 VICTIM = b"root's own\n"
@@ -117,6 +118,6 @@ def links(folder: pathlib.Path, file: pathlib.Path, copy: pathlib.Path) -> None:
     seen = folder / "seen"
     seen.write_text('#!/bin/sh\n[ "$(cut -d" " -f6 /proc/$$/stat)" = $$ ] && echo "$(id -u), own session, $SECRET"\n')
     seen.chmod(0o755)
-    said = run("sh", "-c", f'. {SERVICE / "office-shared"}; find_owner {file}; become {seen}', SECRET="of-root")[1]
+    said = run("sh", "-c", f'. {companion("office-shared")}; find_owner {file}; become {seen}', SECRET="of-root")[1]
     judge("the owner gets nothing of root's environment, and no session with root's terminal",
           said == f"{NOBODY}, own session, \n", said)

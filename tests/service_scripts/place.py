@@ -1,4 +1,4 @@
-"""Real offices and the scripts of service: what the parts of tests/service_scripts share."""
+"""Real offices, and the scripts of copies and registers: what the parts of tests/service_scripts share."""
 import base64
 import hashlib
 import json
@@ -8,11 +8,11 @@ import re
 import subprocess
 
 from kit.commands import OFFICE, SECONDS, TOP
+from kit.companions import companion
 from kit.office import Office
 from kit.waiting import comes
 
 HERE = TOP / "tests"
-SERVICE = TOP / "service"
 NOBODY = 65534
 FIRST, LAST = "2024-01-02", "2025-01-02"
 RECORDS = 20
@@ -27,7 +27,7 @@ def run(*words: object, user: int | None = None, umask: int = 0o022, **env: str)
 
 
 def script(name: str, *words: object, **how) -> tuple[int, str, str]:
-    return run(SERVICE / name, *words, **how)
+    return run(companion(name), *words, **how)
 
 
 def text_of(number: int) -> bytes:

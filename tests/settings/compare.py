@@ -4,7 +4,7 @@ import sys
 from pathlib import Path
 
 HERE = Path(__file__).resolve().parent
-sys.path[:0] = [str(HERE / "../../service/gate"), str(HERE / "../../service")]
+sys.path[:0] = [str(HERE / "../../companions/gate"), str(HERE / "../../companions")]
 from office_gate.access import Access, Person  # noqa: E402
 from office_gate.errors import Refused  # noqa: E402
 from office_gate.settings import read  # noqa: E402
@@ -62,7 +62,7 @@ def by_gate(path: Path) -> list[str]:
 def mutants(seed: int, count: int) -> list[bytes]:
     """Makes files: the example, and as many changed ones."""
     chance = random.Random(seed)
-    example = (HERE / "../../service/gate/city.access").read_bytes()
+    example = (HERE / "../../companions/gate/city.access").read_bytes()
     lines = example.split(b"\n")
     tokens = sorted({token for line in lines for token in line.split(b"#")[0].split()})
     tokens += [b"in", b"if", b"sent", b"*", b"FIN*", b"**", b"A-1", b"is", b"signs", b"", b"later-day", b"vault"]

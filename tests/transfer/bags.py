@@ -9,8 +9,9 @@ from collections.abc import Callable
 import csip
 import reader
 from fake import Fake, digest
+from kit.companions import companion
 from kit.judging import judge
-from place import TOOLS, Done, challenge_of, files_in, run
+from place import TOP, Done, challenge_of, files_in, run
 
 LONG = "ü" * 100
 # refs and titles that an office takes
@@ -32,7 +33,7 @@ KINDS = [
 
 
 def transfer(fake: Fake, target: pathlib.Path, *words: object) -> Done:
-    return run(TOOLS / "transfer", "--office", fake.address, *words, 1, target)
+    return run(companion("office-transfer"), "--office", fake.address, *words, 1, target)
 
 
 def rows(bag: pathlib.Path, name: str) -> list[dict[str, str]]:
@@ -181,7 +182,7 @@ def site(folder: pathlib.Path) -> None:
 
 def plain(folder: pathlib.Path) -> None:
     """A password goes over http to this machine alone: elsewhere nothing is sent, and a sentence says why."""
-    words = (TOOLS / "transfer", "1", folder / "plain", "--login", folder / "login", "--office")
+    words = (companion("office-transfer"), "1", folder / "plain", "--login", folder / "login", "--office")
     for address in ("http://192.0.2.1", "http://office.example:8081/city", "http://[2001:db8::1]"):
         done = run(*words, address)
         judge(f"a password to {address}: nothing is sent", done.status == 2 and "without TLS" in done.error
@@ -189,7 +190,7 @@ def plain(folder: pathlib.Path) -> None:
     for address in ("http://127.0.0.1:1", "http://localhost:1", "http://[::1]:1"):
         done = run(*words, address)
         judge(f"a password to {address} is this machine's own", done.status == 3 and "does not answer" in done.error, done)
-    sys.path.insert(0, str(TOOLS))
+    sys.path[:0] = [str(TOP / "companions/sheets"), str(TOP / "companions")]
     from asking.office import OverHttp
     for address, is_sent in (("http://192.0.2.1", False), ("http://office.example", False), ("https://192.0.2.1", True),
                              ("http://127.0.0.1:1", True), ("http://localhost:1", True)):
@@ -242,9 +243,9 @@ def wrong(folder: pathlib.Path) -> None:
             fake.close(1, [fake.record(1, "A", "One", b"one")])
             change()
             done = transfer(fake, folder / "wrong")
-            judge(f"{name}: no bag, and a sentence", done.status in (1, 3) and done.error.startswith("transfer: ")
+            judge(f"{name}: no bag, and a sentence", done.status in (1, 3) and done.error.startswith("office-transfer: ")
                   and "Traceback" not in done.error and not list(folder.iterdir()), done)
     for words, status in ((("0", "x"), 2), (("1",), 2), (("--office", "ftp://x", "1", "x"), 2),
                           (("--office", "http://127.0.0.1:1", "1", folder / "x"), 3), (("1", folder / "no/x"), 3)):
-        done = run(TOOLS / "transfer", *words)
+        done = run(companion("office-transfer"), *words)
         judge(f"transfer {' '.join(str(it) for it in words)} ends with {status}", done.status == status, done)

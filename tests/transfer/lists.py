@@ -6,8 +6,9 @@ from collections.abc import Callable
 
 from bags import transfer
 from fake import Fake, digest
+from kit.companions import companion
 from kit.judging import judge
-from place import TOOLS, Done, challenge_of, run
+from place import Done, challenge_of, run
 
 BIG, SCAN = b"big", b"scan"
 PARTS = {"data/000001_A_One.txt": b"one", "data/000003_C_One-again.txt": b"one", "data/000004_D_Four.txt": b"four",
@@ -31,7 +32,7 @@ def receipts(bag: pathlib.Path, text: str | bytes, *words: object) -> tuple[list
     """The records that get a receipt, and how the command ended."""
     file = bag.parent / "list"
     file.write_bytes(text if isinstance(text, bytes) else text.encode())
-    done = run(TOOLS / "receipts", bag, file, "--by", "M. Vane", "--day", "2024-03-18", *words)
+    done = run(companion("office-receipts"), bag, file, "--by", "M. Vane", "--day", "2024-03-18", *words)
     acts = json.loads(done.out) if done.out else []
     return [it["record"] for it in acts], done
 
@@ -167,7 +168,7 @@ def refused(bag: pathlib.Path, content: str) -> None:
     ):
         found, done = receipts(bag, text, *words)
         judge(f"{name}: status 2, and no act", (done.status, done.out) == (2, "") and "Traceback" not in done.error, done)
-    done = run(TOOLS / "receipts", bag.parent, bag / "manifest-sha256.txt", "--by", "x")
+    done = run(companion("office-receipts"), bag.parent, bag / "manifest-sha256.txt", "--by", "x")
     judge("a folder that is no bag: status 2", done.status == 2, done)
 
 

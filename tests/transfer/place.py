@@ -5,8 +5,7 @@ import re
 from kit.commands import OFFICE, TOP, Done, run
 
 HERE = pathlib.Path(__file__).resolve().parent
-TOOLS, SERVICE = TOP / "tools", TOP / "service"
-__all__ = ["HERE", "OFFICE", "SERVICE", "TOOLS", "TOP", "Done", "challenge_of", "files_in", "run"]
+__all__ = ["HERE", "OFFICE", "TOP", "Done", "challenge_of", "files_in", "run"]
 
 
 def challenge_of(bag: pathlib.Path) -> bytes:

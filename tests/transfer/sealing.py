@@ -9,11 +9,12 @@ from collections.abc import Callable
 
 import authority
 from fake import Fake, certificate, digest
+from kit.companions import companion
 from kit.judging import judge
 from kit.waiting import next_second
-from place import SERVICE, TOOLS, Done, run
+from place import Done, run
 
-SEAL, VERIFY = SERVICE / "office-seal", TOOLS / "verify"
+SEAL, VERIFY = companion("office-seal"), companion("office-verify")
 KILLS = 25
 
 

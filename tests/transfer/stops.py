@@ -7,8 +7,9 @@ import time
 
 import reader
 from fake import Fake
+from kit.companions import companion
 from kit.judging import judge
-from place import TOOLS, files_in, run
+from place import files_in, run
 
 KILLS = 40
 RECORDS = 30
@@ -18,7 +19,7 @@ def stops(folder: pathlib.Path) -> None:
     rng = random.Random(73)
     with Fake() as fake:
         fake.close(1, [fake.record(at, f"r{at}", f"Title {at}", rng.randbytes(20_000)) for at in range(1, RECORDS + 1)])
-        words = [str(TOOLS / "transfer"), "--office", fake.address]
+        words = [str(companion("office-transfer")), "--office", fake.address]
         began = time.monotonic()
         run(*words, "1", folder / "model")
         seconds, model = time.monotonic() - began, files_in(folder / "model")
@@ -56,7 +57,7 @@ def beside(folder: pathlib.Path) -> None:
     """A second one begins at the same place while the first writes: neither takes away what the other has written."""
     with Fake(seconds=0.05) as fake:
         fake.close(1, [fake.record(at, f"r{at}", "T", b"x") for at in range(1, 31)])
-        words = [str(TOOLS / "transfer"), "--office", fake.address, "1", str(folder / "bag")]
+        words = [str(companion("office-transfer")), "--office", fake.address, "1", str(folder / "bag")]
         both = [subprocess.Popen(words, stdout=subprocess.PIPE, stderr=subprocess.PIPE)]
         while not list(folder.glob(".bag.new-*/data")):
             time.sleep(0.01)

@@ -14,9 +14,10 @@ import csip
 import reader
 from bags import ODD, rows, sums_agree
 from fake import digest
+from kit.companions import companion
 from kit.judging import judge
 from kit.office import Office
-from place import OFFICE, SERVICE, TOOLS, TOP, challenge_of, files_in, run
+from place import OFFICE, challenge_of, files_in, run
 
 COUNT = 1000
 ADDED, DUE, SENT = "2020-01-02", "2020-01-03", "2020-02-02"
@@ -68,7 +69,7 @@ def made(file: pathlib.Path) -> None:
 
 
 def waiting(copy: pathlib.Path) -> list[dict[str, str]]:
-    done = run(SERVICE / "office-awaiting", copy)
+    done = run(companion("office-awaiting"), copy)
     judge("what waits is listed", done.status == 0, done)
     return list(csv.DictReader(io.StringIO(done.out, newline="")))
 
@@ -96,12 +97,12 @@ def thousand(folder: pathlib.Path) -> None:
     file, bag = folder / "office.db", folder / "bag"
     made(file)
     (folder / "catalogue").mkdir()
-    done = run(SERVICE / "office-catalogue", file, folder / "catalogue")
+    done = run(companion("office-catalogue"), file, folder / "catalogue")
     judge("a catalogue of it is made, with what waits", done.status == 0
           and (folder / "catalogue/now/awaiting.json.gz").is_file(), done)
     judge("a thousand wait", [int(it["record"]) for it in waiting(file)] == list(range(1, COUNT + 1)))
     with Office(file) as office:
-        words = (TOOLS / "transfer", "--office", office.address, "--catalogue", folder / "catalogue/now", 1)
+        words = (companion("office-transfer"), "--office", office.address, "--catalogue", folder / "catalogue/now", 1)
         done = run(*words, bag)
         judge("the bag of a real office is made", (done.status, done.error) == (0, ""), done)
         judge("an independent reader and sha256sum find nothing wrong", reader.problems_of(str(bag)) == []
@@ -118,7 +119,7 @@ def thousand(folder: pathlib.Path) -> None:
         receipts(folder, bag, office, words)
     # the service is killed, so a copy has what the log has
     copy = folder / "copy.db"
-    done = run(SERVICE / "office-backup", file, copy)
+    done = run(companion("office-backup"), file, copy)
     judge("a copy is taken", done.status == 0, done)
     rest = archives_list(bag)[1]
     found = waiting(copy)
@@ -130,14 +131,14 @@ def receipts(folder: pathlib.Path, bag: pathlib.Path, office: Office, words: tup
     """The archive's list becomes acts, the office takes each of them, and the same list again makes none."""
     text, lacking, wanted = archives_list(bag)
     (folder / "list").write_text(text)
-    call = (TOOLS / "receipts", bag, folder / "list", "--by", BY, "--day", "2020-03-01", "-o", folder / "acts.json")
+    call = (companion("office-receipts"), bag, folder / "list", "--by", BY, "--day", "2020-03-01", "-o", folder / "acts.json")
     done = run(*call)
     acts = json.loads((folder / "acts.json").read_bytes())
     judge("each record that the archive has gets a receipt, and no other", done.status == 1
           and {it["record"] for it in acts} == wanted and len(acts) == len(wanted) == COUNT - len(lacking), done)
     judge("what is missing or differs is named", all(f"record {it}," in done.error for it in lacking)
           and "missing: 12, differing: 24, twice: 24, not used: 0" in done.error, done.error[-300:])
-    check = next(it for it in (TOOLS / "check", TOP / "examples/acts/check") if it.exists())
+    check = companion("office-check")
     said = run(check, folder / "acts.json")
     judge("the checker of acts takes them", said.status == 0 and f"acts: {len(wanted)}, wrong: 0" in said.out, said)
     conn = http.client.HTTPConnection("127.0.0.1", office.port, timeout=600)
@@ -169,7 +170,7 @@ def mail(folder: pathlib.Path) -> None:
     (folder / "acts.json").write_text(json.dumps(every))
     judge("an office sent one of two", run(OFFICE, "apply", file, folder / "acts.json").status == 0)
     registers.mkdir()
-    done = run(SERVICE / "office-overdue", file, registers, "2020-05-01", 30)
+    done = run(companion("office-overdue"), file, registers, "2020-05-01", 30)
     judge("both registers are written, of one copy", done.status == 0 and sorted(it.name for it in registers.iterdir())
           == ["awaiting-2020-05-01.csv", "overdue-2020-05-01.csv"], done)
     waits = (registers / "awaiting-2020-05-01.csv").read_text()
@@ -181,14 +182,14 @@ def mail(folder: pathlib.Path) -> None:
     (tool / "mail").write_text(f"#!/bin/sh\nfor word; do echo \"$word\"; done >{sent}\ncat >{sent}.body\n")
     (tool / "mail").chmod(0o755)
     path = f"{tool}:{os.environ['PATH']}"
-    done = run(SERVICE / "office-overdue-mail", registers / "overdue-2020-05-01.csv", "a@localhost", PATH=path)
+    done = run(companion("office-overdue-mail"), registers / "overdue-2020-05-01.csv", "a@localhost", PATH=path)
     body = (folder / "sent.body").read_text()
     judge("the mail has both, with their counts in the subject", done.status == 0
           and sent.read_text().splitlines()[1] == "Records overdue on 2020-05-01: 1, awaiting a receipt: 1"
           and body == (registers / "overdue-2020-05-01.csv").read_text()
           + "\nSent to the archive, and awaiting its receipt: 1\n" + waits, (done, body))
     (registers / "awaiting-2020-05-01.csv").unlink()
-    done = run(SERVICE / "office-overdue-mail", registers / "overdue-2020-05-01.csv", "a@localhost", PATH=path)
+    done = run(companion("office-overdue-mail"), registers / "overdue-2020-05-01.csv", "a@localhost", PATH=path)
     judge("without the second register it is as it was", done.status == 0
           and sent.read_text().splitlines()[1] == "Records overdue on 2020-05-01: 1"
           and (folder / "sent.body").read_text() == (registers / "overdue-2020-05-01.csv").read_text(), done)

@@ -1,4 +1,4 @@
-// Calls functions of the page's modules: node called.mjs FOLDER, which has web/plain. Standard input has the calls as JSON, each
+// Calls functions of the page's modules: node called.mjs FOLDER, which has page/plain. Standard input has the calls as JSON, each
 // a module, a function and its arguments; standard output gets what each returned.
 import { readFileSync } from "node:fs";
 import { pathToFileURL } from "node:url";

@@ -13,13 +13,13 @@ import big_office
 import looks
 from browser import Browser
 from interface import city
+from kit.companions import companion
 from kit.judging import judge, same
-from place import OFFICE, TOP, Office, Proxy
+from place import OFFICE, Office, Proxy
 from shots import SCHEMES, SIZES, shots
 from story import TEXTS, says
 
 WORDS = TEXTS["catalogue"]
-SERVICE = TOP / "service"
 # so many records are there for how it looks
 MANY = 2000
 VIEWS = {"records": "", "aggregations": "?part=aggregations", "schedules": "?part=schedules", "holds": "?part=holds"}
@@ -33,14 +33,14 @@ def make(proxy: Proxy, copy: pathlib.Path) -> None:
         place.mkdir()
         shutil.chown(place, group="www-data")
         place.chmod(0o2750)
-    subprocess.run([SERVICE / "office-catalogue", copy, place], check=True, env={**os.environ, "OFFICE": OFFICE})
+    subprocess.run([companion("office-catalogue"), copy, place], check=True, env={**os.environ, "OFFICE": OFFICE})
 
 
 def renew(proxy: Proxy, office: Office) -> None:
     """The catalogue of an office that is served, as it is now."""
     copy = proxy.folder / "catalogued.db"
     copy.unlink(missing_ok=True)
-    subprocess.run([SERVICE / "office-backup", office.file, copy], check=True, env={**os.environ, "OFFICE": OFFICE})
+    subprocess.run([companion("office-backup"), office.file, copy], check=True, env={**os.environ, "OFFICE": OFFICE})
     make(proxy, copy)
 
 
@@ -271,7 +271,7 @@ def tell(office: Office, proxy: Proxy, it: Browser, folder: pathlib.Path) -> Non
         office.ask("POST", "/acts", city(name))
     office.ask("POST", "/run/resume")
     copy = folder / "copy.db"
-    subprocess.run([SERVICE / "office-backup", office.file, copy], check=True, env={**os.environ, "OFFICE": OFFICE})
+    subprocess.run([companion("office-backup"), office.file, copy], check=True, env={**os.environ, "OFFICE": OFFICE})
     make(proxy, copy)
     same("without a password nobody gets it", proxy.ask("GET", "/catalogue/records.json", named=False)[0], 401)
     status, body = proxy.ask("GET", "/catalogue/about.json", fields={"Accept-Encoding": "identity"})

@@ -201,7 +201,7 @@ def large(folder: pathlib.Path) -> None:
     place = folder / "modules"
     place.mkdir()
     for name in ("plain", "sheet"):
-        shutil.copytree(TOP / "web" / name, place / name)
+        shutil.copytree(TOP / "page" / name, place / name)
     (place / "package.json").write_text('{"type":"module"}')
     script = pathlib.Path(__file__).with_name("finding.mjs")
     done = subprocess.run(["node", script, place], stdout=subprocess.PIPE, check=True)

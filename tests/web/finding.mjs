@@ -1,4 +1,4 @@
-// Finds and orders 200,000 records by the page's own modules: node finding.mjs FOLDER, which has web/plain and web/sheet.
+// Finds and orders 200,000 records by the page's own modules: node finding.mjs FOLDER, which has page/plain and page/sheet.
 // Standard output gets the milliseconds of each as JSON, of the processor's time at best of three, since a machine may be busy;
 // what is found is compared with a plain search.
 import { pathToFileURL } from "node:url";

@@ -1,4 +1,4 @@
-"""The page in German: each view has the words of web/texts/de.json and no English one; acts are explained in it."""
+"""The page in German: each view has the words of page/texts/de.json and no English one; acts are explained in it."""
 import json
 import pathlib
 from collections.abc import Callable
@@ -12,10 +12,10 @@ from kit.judging import judge, same
 from place import TOP, Proxy
 from texts import flat
 
-ENGLISH = flat(json.loads((TOP / "web/texts/en.json").read_text()))
+ENGLISH = flat(json.loads((TOP / "page/texts/en.json").read_text()))
 # what follows the names of pictures; their sizes and schemes
 GERMAN_PICTURES = ("-german", ("1280x900",), ("light",))
-GERMAN = flat(json.loads((TOP / "web/texts/de.json").read_text()))
+GERMAN = flat(json.loads((TOP / "page/texts/de.json").read_text()))
 # every text that is seen or read out, but for what the office reports and for codes
 READ = """
 const found = []; const walk = document.createTreeWalker(document.body, NodeFilter.SHOW_TEXT);

@@ -233,7 +233,7 @@ return [document.documentElement.lang, document.title, found.filter((it) => !(it
 
 def languages(folder, proxy, open_browser):
     """One more file in texts/ is one more language, and no text stands anywhere else."""
-    strange = written(json.loads((TOP / "web/texts/en.json").read_text())) | {"lang": "nl"}
+    strange = written(json.loads((TOP / "page/texts/en.json").read_text())) | {"lang": "nl"}
     file = folder / "web/texts/nl.json"
     file.write_text(json.dumps(strange, ensure_ascii=False))
     with open_browser(folder, "nl-BE") as other:

@@ -10,7 +10,7 @@ from kit.judging import same
 from place import TOP, Office, Proxy
 from story import Story, says
 
-GERMAN = json.loads((TOP / "web/texts/de.json").read_text())["import"]
+GERMAN = json.loads((TOP / "page/texts/de.json").read_text())["import"]
 
 
 def either(view: View) -> None:

@@ -1,4 +1,4 @@
-"""A place to try the page in: an office that `office serve` serves, and nginx with the site service/nginx/office.conf before it.
+"""A place to try the page in: an office that `office serve` serves, and nginx with the site deploy/nginx/office.conf before it.
 
 The site is the one of the repository, with the files that it includes. Ports, folders and files of this trial are put
 in place of those that it names.
@@ -19,9 +19,9 @@ from kit.ports import free_port
 TOP = pathlib.Path(__file__).resolve().parent.parent.parent
 OFFICE = os.environ.get("OFFICE", str(TOP / "office"))
 # the page that is tried; mutants names another one
-WEB = pathlib.Path(os.environ.get("WEB", TOP / "web"))
+WEB = pathlib.Path(os.environ.get("WEB", TOP / "page"))
 NAME, PASSWORD = "registrar", "a long one"
-NGINX = TOP / "service/nginx"
+NGINX = TOP / "deploy/nginx"
 # in place of Debian's nginx.conf
 MAIN = """load_module modules/ngx_http_js_module.so;
 user www-data;
@@ -40,7 +40,7 @@ http {{
 
 def replaced(text, old, new):
     if old not in text:
-        raise SystemExit(f"the site of service/nginx does not say {old!r}")
+        raise SystemExit(f"the site of deploy/nginx does not say {old!r}")
     return text.replace(old, new)
 
 

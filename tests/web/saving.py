@@ -13,7 +13,7 @@ from kit.judging import same
 from place import TOP, Office, Proxy
 from story import TEXTS, Story
 
-LANGUAGES = {name: json.loads((TOP / f"web/texts/{name}.json").read_text()) for name in ("en", "de")}
+LANGUAGES = {name: json.loads((TOP / f"page/texts/{name}.json").read_text()) for name in ("en", "de")}
 WORDS = TEXTS["import"]
 # an older column of reasons goes; rows 3 to 6 are wrong
 OLDER = """Reason;ref;title;originated;aggregation

@@ -13,7 +13,7 @@ from kit.judging import judge, same
 from place import TOP, full
 
 WHO = "R. Halloran, records manager"
-TEXTS = json.loads((TOP / "web/texts/en.json").read_text())
+TEXTS = json.loads((TOP / "page/texts/en.json").read_text())
 # what the page says in the place of words that send people to the manual, or speak to programs
 for _part, _words in TEXTS["help"].items():
     for _name, _do in _words.items():

@@ -1,4 +1,4 @@
-"""The words of refusals, faults, statuses and answers of the proxy are in web/texts, and the same in docs/ERRORS.md.
+"""The words of refusals, faults, statuses and answers of the proxy are in page/texts, and the same in docs/ERRORS.md.
 
 Each language has the same texts, with the same places for values. The addresses in docs/WEB.md are those of the views.
 """
@@ -82,7 +82,7 @@ def unbent(texts):
 def language(file, english):
     """A language has each text and no other, with the same places, and none is empty that is not so in English."""
     other = flat(json.loads(file.read_text()))
-    name = f"web/texts/{file.name}"
+    name = f"page/texts/{file.name}"
     same(f"{name} has each text and no other", sorted(other.keys() ^ english.keys()), [])
     both = sorted(other.keys() & english.keys())
     same(f"{name} has the same places in each", [key for key in both if places(other[key]) != places(english[key])], [])
@@ -126,14 +126,14 @@ def views(page):
 
 def tell():
     page = (TOP / "docs/ERRORS.md").read_text()
-    english = json.loads((TOP / "web/texts/en.json").read_text())
+    english = json.loads((TOP / "page/texts/en.json").read_text())
     for name, (heading, _) in TABLES.items():
-        same(f"docs/ERRORS.md and web/texts/en.json say the same: {heading}", english[name], shared(page, name))
-    files = sorted((TOP / "web/texts").glob("*.json"))
+        same(f"docs/ERRORS.md and page/texts/en.json say the same: {heading}", english[name], shared(page, name))
+    files = sorted((TOP / "page/texts").glob("*.json"))
     judge("there are English and German", {"en", "de"} <= {file.stem for file in files}, str(files))
     for file in files:
         language(file, flat(english))
     shown = addresses((TOP / "docs/WEB.md").read_text())
-    same("docs/WEB.md has the address of each view", sorted(shown), sorted(views(TOP / "web")))
-    missing = sorted(key for key in named(TOP / "web") if not there(english, key) and not key.endswith(".js"))
+    same("docs/WEB.md has the address of each view", sorted(shown), sorted(views(TOP / "page")))
+    missing = sorted(key for key in named(TOP / "page") if not there(english, key) and not key.endswith(".js"))
     judge("each text that the page names is there", not missing, str(missing))

@@ -23,7 +23,7 @@ from shots import SIZES, shot
 from story import TEXTS, Story, says
 
 WORDS, FILES = TEXTS["vault"], TEXTS["files"]
-COMMAND = TOP / "service/vault/office-vault"
+COMMAND = TOP / "companions/vault/office-vault"
 MOST, MIB = 262_144, 1 << 20
 
 

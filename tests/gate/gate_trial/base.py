@@ -4,7 +4,7 @@ import pathlib
 
 from gate_trial.world import TOP, World, today
 
-CITY = (TOP / "service/gate/city.access").read_text()
+CITY = (TOP / "companions/gate/city.access").read_text()
 ROLES = "\n".join(it for it in CITY.splitlines() if it.startswith("role ")) + "\n"
 NAMES = "".join(f"name {it} is {it}\n" for it in ("registry", "records-manager", "legal", "auditor", "archive",
                                                   "monitor"))

@@ -10,7 +10,7 @@ from kit.judging import judge
 from gate_trial.world import OFFICE, TOP
 
 SOURCES = "/root/office"
-PARTS = ("service", "web")
+PARTS = ("companions", "deploy", "page")
 
 
 def section(page: str, heading: str) -> str:

@@ -32,7 +32,7 @@ fetch(new URL(`../${path}`, location.origin + location.pathname), { method: verb
 
 
 def texts(language: str, part: str = "proxy") -> dict:
-    return json.loads((TOP / f"web/texts/{LANGUAGES[language]}.json").read_text())[part]
+    return json.loads((TOP / f"page/texts/{LANGUAGES[language]}.json").read_text())[part]
 
 
 def started(options: webdriver.ChromeOptions) -> webdriver.Chrome:

@@ -42,7 +42,7 @@ def tried(folder: pathlib.Path) -> None:
 
 def allowed() -> None:
     """The unit lets the gate ask whether the clock is synchronised."""
-    unit = TOP / "service/gate/office-gate@.service"
+    unit = TOP / "companions/gate/units/office-gate@.service"
     code = f"import sys; sys.path[:0] = [{str(JOURNAL.parent)!r}]\nfrom office_gate import clock\n" \
            "clock.TIMESYNCD = None\nprint(clock.is_synchronised())"
     for what, words in (("without the unit", []), ("in the unit", [TOP / "tests/unit_filter.py", unit])):
@@ -225,7 +225,7 @@ def closed(world: World, clock: Fake, days: int) -> None:
     """A future day is taken all the same: the monitor sees it, and the way out of the page makes it undone."""
     acting(world, f"before {days}", f"PRE{days}")
     copy = world.folder / f"copy{days}.db"
-    subprocess.run([TOP / "service/office-backup", world.file, copy], check=True, capture_output=True)
+    subprocess.run([TOP / "companions/copies/office-backup", world.file, copy], check=True, capture_output=True)
     time.sleep(1)
     same("a record since", world.act("registry", filing(1000 + days, 1, b"since"))[0], 200)
     time.sleep(1)
@@ -247,7 +247,7 @@ def closed(world: World, clock: Fake, days: int) -> None:
     done = subprocess.run([PYTHON, "-I", JOURNAL, "replay", world.journal, copy, new, "--state", world.state, "--until", found],
                           capture_output=True, text=True, check=False)
     judge("the acts before it are done once more", done.returncode == 0, done.stdout + done.stderr)
-    words = [TOP / "service/office-restore", world.file, new]
+    words = [TOP / "companions/copies/office-restore", world.file, new]
     done = subprocess.run(words, capture_output=True, text=True, check=False)
     if done.returncode == 1:
         done = subprocess.run([words[0], "--since-was-read", *words[1:]], capture_output=True, text=True, check=False)

@@ -9,7 +9,7 @@ from gate_trial.base import SETTINGS, filing, plan
 from kit.judging import judge, same
 from gate_trial.world import JOURNAL, OFFICE, PYTHON, TOP, World, today
 
-BACKUP = TOP / "service/office-backup"
+BACKUP = TOP / "companions/copies/office-backup"
 HOLD = {"act": "place-hold", "reason": "r"}
 PRINTS = '#!/bin/sh\necho "$@" > {folder}/asked\ncat {log}\n'
 

@@ -12,10 +12,11 @@ from gate_trial import reasons
 from gate_trial.base import SETTINGS, filing, plan
 from gate_trial.browsing import LANGUAGES, Browser, texts
 from gate_trial.deeds import Stage, Stages, all_done, all_forged, by_form
+from kit.companions import companion
 from kit.judging import judge, same
 from gate_trial.proxy import PASSWORD, Proxy
 from gate_trial.roles import MAY, READS
-from gate_trial.world import OFFICE, TOP, World, today
+from gate_trial.world import OFFICE, World, today
 
 ROLES = ("legal", "archive", "auditor", "registry", "records-manager", "department")
 VIEWS = ("todo", "due", "overdue", "outlook", "record", "sent", "file", "import", "plan", "run",
@@ -105,7 +106,7 @@ def fill(world: World, proxy: Proxy, catalogues: pathlib.Path) -> None:
     same("a hold", proxy.act("legal", [{"act": "place-hold", "code": "H", "reason": "a lawsuit", **day}])[0], 200)
     for command, *places in (("office-backup", world.file, world.folder / "copy.db"),
                              ("office-catalogue", world.folder / "copy.db", catalogues)):
-        done = subprocess.run([TOP / "service" / str(command), *places], capture_output=True, text=True, check=False,
+        done = subprocess.run([companion(str(command)), *places], capture_output=True, text=True, check=False,
                               env={**os.environ, "OFFICE": OFFICE})
         judge(f"{command}", done.returncode == 0, done.stderr)
 

@@ -11,9 +11,10 @@ from selenium.webdriver.common.by import By
 
 from gate_trial.base import SETTINGS, filing, plan
 from gate_trial.browsing import LANGUAGES, Browser, texts
+from kit.companions import companion
 from kit.judging import judge, same
 from gate_trial.proxy import Proxy
-from gate_trial.world import OFFICE, TOP, World, today
+from gate_trial.world import OFFICE, World, today
 
 NAMES = ("legal", "auditor", "registry", "records-manager", "department")
 MORE = "name records-manager signs R. Halloran, records manager\nrule reason-for lift-hold\n"
@@ -66,7 +67,7 @@ def make(world: World) -> None:
     copy = world.folder / "copy.db"
     copy.unlink(missing_ok=True)
     for command, *places in (("office-backup", world.file, copy), ("office-catalogue", copy, world.catalogue)):
-        done = subprocess.run([TOP / "service" / str(command), *places], capture_output=True, text=True, check=False,
+        done = subprocess.run([companion(str(command)), *places], capture_output=True, text=True, check=False,
                               env={**os.environ, "OFFICE": OFFICE})
         judge(f"{command}", done.returncode == 0, done.stderr)
 

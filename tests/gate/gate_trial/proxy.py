@@ -24,7 +24,7 @@ class Proxy(Sites):
                   "/run/office-gate/city/socket": str(gate), "127.0.0.1:8081": f"127.0.0.1:{office}",
                   "/var/lib/office-catalogues/city/now": str(catalogue),
                   "listen 80;": f"listen 127.0.0.1:{free_port()};",
-                  "listen 443": f"listen 127.0.0.1:{port}", "/usr/local/share/office/web": str(TOP / "web"),
+                  "listen 443": f"listen 127.0.0.1:{port}", "/usr/local/share/office/web": str(TOP / "page"),
                   "|https://$server_name": f"|https://$server_name:{port}"} | (more or {})
         super().__init__(folder, port, places)
         self.put("gate_tokens.conf", f'"~^/city/" {TOKEN};\n')

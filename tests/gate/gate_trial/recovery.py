@@ -11,7 +11,7 @@ from gate_trial.base import SETTINGS, filing, plan
 from kit.judging import judge, same
 from gate_trial.world import JOURNAL, OFFICE, PYTHON, TOP, World, today
 
-BACKUP = TOP / "service/office-backup"
+BACKUP = TOP / "companions/copies/office-backup"
 
 
 def tried(folder: pathlib.Path) -> None:

@@ -7,8 +7,9 @@ import subprocess
 import time
 
 from gate_trial.base import SETTINGS, filing
+from kit.companions import companion
 from kit.judging import judge, same
-from gate_trial.world import OFFICE, TOP, World, today
+from gate_trial.world import OFFICE, World, today
 
 MORE = """
 role clerk reads catalogue records lists history
@@ -93,7 +94,7 @@ def make(world: World) -> None:
     copy = world.folder / "copy.db"
     copy.unlink(missing_ok=True)
     for command, *words in (("office-backup", world.file, copy), ("office-catalogue", copy, world.catalogue)):
-        done = subprocess.run([TOP / "service" / str(command), *words], capture_output=True, text=True, check=False,
+        done = subprocess.run([companion(str(command)), *words], capture_output=True, text=True, check=False,
                               env={**os.environ, "OFFICE": OFFICE})
         judge(command, done.returncode == 0, done.stderr)
 

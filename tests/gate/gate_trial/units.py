@@ -265,7 +265,7 @@ def year_ended(it: Machine) -> None:
     unit = "office-yearend@city"
     acts = json.dumps([{"act": "add-aggregation", "day": today(), "ref": "Y/1", "title": "next year", "parent": None,
                         "class": "BLDG1"}])
-    it.done(f"cp service/office-yearend@.service /etc/systemd/system/; systemctl daemon-reload; mkdir -p {place}; "
+    it.done(f"cp companions/registers/units/office-yearend@.service /etc/systemd/system/; systemctl daemon-reload; mkdir -p {place}; "
             f"echo '{acts}' > {place}/{today()}-1.json; chmod 644 {place}/*", "a list of today")
     start = (f"systemctl start {unit} || true; systemctl show -P Result {unit}; "
              f"journalctl -o cat -u {unit} --no-pager | tail -n 5")

@@ -15,7 +15,7 @@ from kit.ports import free_port
 
 TOP = pathlib.Path(__file__).resolve().parents[3]
 OFFICE = os.environ.get("OFFICE") or str(TOP / "crates/office/out/office")
-SOURCES = pathlib.Path(os.environ.get("GATE_SOURCES") or TOP / "service")
+SOURCES = pathlib.Path(os.environ.get("GATE_SOURCES") or TOP / "companions")
 GATE = SOURCES / "gate/office-gate"
 JOURNAL = SOURCES / "gate/office-journal"
 PYTHON = "/usr/bin/python3"

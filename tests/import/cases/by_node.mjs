@@ -1,4 +1,4 @@
-// Reads cases from standard input, and writes what the page makes of each: node by_node.mjs FOLDER, which has web/sheet.
+// Reads cases from standard input, and writes what the page makes of each: node by_node.mjs FOLDER, which has page/sheet.
 import { readFileSync } from "node:fs";
 import { pathToFileURL } from "node:url";
 

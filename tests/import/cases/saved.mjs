@@ -1,4 +1,4 @@
-// Writes rows as the page saves them, for each separator: node saved.mjs FOLDER, which has web/plain and web/sheet.
+// Writes rows as the page saves them, for each separator: node saved.mjs FOLDER, which has page/plain and page/sheet.
 import { readFileSync } from "node:fs";
 import { pathToFileURL } from "node:url";
 

@@ -1,4 +1,4 @@
-// Writes the tables of the kinds of acts that the page has: node tables.mjs FOLDER, which has web/sheet.
+// Writes the tables of the kinds of acts that the page has: node tables.mjs FOLDER, which has page/sheet.
 import { pathToFileURL } from "node:url";
 
 const module = (name) => import(pathToFileURL(`${process.argv[2]}/${name}`));

@@ -1,11 +1,11 @@
-// What the page makes of cases: web/sheet. A case has the bytes of its sheet as base64; `run` gives them, and compares.
-// A browser or node gives `turned` of web/sheet/turning.js to it.
+// What the page makes of cases: page/sheet. A case has the bytes of its sheet as base64; `run` gives them, and compares.
+// A browser or node gives `turned` of page/sheet/turning.js to it.
 
 const bytesOf = (base64) => Uint8Array.from(atob(base64), (it) => it.charCodeAt(0));
 
 const TODAY = "2026-11-28";
 
-/** What comes of a case, in the same form as turned.py has it; `catalogueOf` is that of web/sheet/lookups.js. */
+/** What comes of a case, in the same form as turned.py has it; `catalogueOf` is that of page/sheet/lookups.js. */
 export function outcomeOf(turned, catalogueOf, { base64, options }) {
   try {
     const catalogue = options.catalogue && catalogueOf(options.catalogue);

@@ -1,4 +1,4 @@
-"""What the command line makes of a case: tools/spreadsheet."""
+"""What the command line makes of a case: companions/sheets/spreadsheet."""
 from __future__ import annotations
 
 import base64
@@ -8,7 +8,8 @@ import re
 import sys
 
 HERE = pathlib.Path(__file__).resolve().parent
-sys.path.insert(0, str(HERE.parent.parent.parent / "tools"))
+COMPANIONS = HERE.parents[2] / "companions"
+sys.path[:0] = [str(COMPANIONS / "sheets"), str(COMPANIONS)]
 
 from spreadsheet.acts import ActTurner, Asked  # noqa: E402
 from spreadsheet.catalogue import catalogue_of  # noqa: E402

@@ -134,7 +134,7 @@ def access(names: list[str]) -> list[Finding]:
     """Has office-gate read each file of settings of a gate."""
     findings = []
     for name in names:
-        done = call([PYTHON, "-I", "service/gate/office-gate", "check", name], cwd=TOP)
+        done = call([PYTHON, "-I", "companions/gate/office-gate", "check", name], cwd=TOP)
         if missing := re.search("No module named '(aiohttp|h11)'", done.text):
             raise Skipped(f"there is no python3-{missing[1]}")
         if done.status:
@@ -155,7 +155,7 @@ def members(names: list[str]) -> list[Finding]:
             json.loads(text)
         except json.JSONDecodeError:
             continue  # the check json reports it
-        fault = call([PYTHON, "-B", "-c", MEMBER], cwd=TOP / "replicas", given=text).text.strip()
+        fault = call([PYTHON, "-B", "-c", MEMBER], cwd=TOP / "companions/members", given=text).text.strip()
         if fault:
             word = fault.split()[0]
             findings.append(Finding(name, line_of(text, f'"{word}"'), fault[-200:]))

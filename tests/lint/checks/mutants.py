@@ -8,12 +8,12 @@ from checks.python_files import PYTHON
 from checks.tree import TOP
 
 LISTS = {
-    "tests/gate/mutants": ("tests/gate/planted/", "service/gate/office_gate/"),
-    "tests/vault/mutants": ("tests/vault/planted", "service/vault/office_vault/"),
-    "tests/web/mutants": ("tests/web/planted/", "web/"),
-    "tests/transfer/mutants": ("tests/transfer/planted", "tools/", "service/office"),
-    "tests/intake/mutants": ("tests/intake/planted", "tools/intak"),
-    "tests/replicas/mutants": ("tests/replicas/planted/", "replicas/replica/"),
+    "tests/gate/mutants": ("tests/gate/planted/", "companions/gate/office_gate/"),
+    "tests/vault/mutants": ("tests/vault/planted", "companions/vault/office_vault/"),
+    "tests/web/mutants": ("tests/web/planted/", "page/"),
+    "tests/transfer/mutants": ("tests/transfer/planted", "companions/transfer/", "companions/seals/", "companions/registers/"),
+    "tests/intake/mutants": ("tests/intake/planted", "companions/sheets/intak", "companions/sheets/office-intake"),
+    "tests/replicas/mutants": ("tests/replicas/planted/", "companions/members/replica/"),
 }
 """each list, and how the names of the files begin of which it knows"""
 LINE = re.compile(r"^(?P<file>tests/[^:\n]+):(?P<line>\d+): (?P<text>.+)$", re.M)

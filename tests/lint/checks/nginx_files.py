@@ -9,10 +9,10 @@ import tempfile
 from checks.finding import Finding, Skipped, call, findings_in, need
 from checks.tree import TOP, files
 
-NGINX = "service/nginx"
+NGINX = "deploy/nginx"
 MODULE = "/usr/lib/nginx/modules/ngx_http_js_module.so"
 SITES = ("office.conf", "offices.conf", "gated.conf")
-OF_MEMBERS = "service/replicas/nginx.conf"
+OF_MEMBERS = "companions/members/setup/nginx.conf"
 MAIN = """load_module {module};
 include {folder}/limits.conf;
 pid {folder}/pid;

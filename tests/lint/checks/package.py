@@ -12,16 +12,19 @@ from typing import Any
 from checks.finding import Finding, call, line_of, need
 from checks.tree import TOP, files, interpreter, read, suffix
 
-LISTS = ("packaging/files", "packaging/replicas/files", "packaging/copies")
-LEFT_OUT = ("service/replicas/three",)
-"""what no package has: it tries three members on one machine"""
+COPIES = "deploy/packaging/copies"
+LISTS = ("deploy/packaging/files", "deploy/packaging/replicas/files", COPIES)
+OF_MACHINE = ("companions/", "deploy/")
+"""the folders whose files go to machines, but for those of LEFT_OUT and pages"""
+LEFT_OUT = ("deploy/packaging/", "companions/members/setup/three")
+"""what no package has: it makes packages, or tries three members on one machine"""
 VERSION, DAY = "1.0", "2026-01-01"
 
 
 def making(name: str) -> Any:
-    """Returns a module of packaging/making."""
-    if str(TOP / "packaging") not in sys.path:
-        sys.path.append(str(TOP / "packaging"))
+    """Returns a module of deploy/packaging/making."""
+    if str(TOP / "deploy/packaging") not in sys.path:
+        sys.path.append(str(TOP / "deploy/packaging"))
     return importlib.import_module(f"making.{name}")
 
 
@@ -36,26 +39,27 @@ def rows(name: str) -> list[tuple[int, str, str]]:
 
 
 def lists(names: list[str]) -> list[Finding]:
-    """Compares the lists with the repository: each source is there, and each file of service is in a list."""
+    """Compares the lists with the repository: each source is there, and each file for a machine is in a list."""
     findings: list[Finding] = []
     covered: set[str] = set()
     for name in LISTS:
         seen: set[str] = set()
         for at, source, place in rows(name):
             own = [item for item in files() if item == source or item.startswith(f"{source}/")]
-            covered |= set(own) if name != "packaging/copies" else set()
+            covered |= set(own) if name != COPIES else set()
             if not own:
                 findings.append(Finding(name, at, f"{source} is not there"))
-            if not place.startswith("/") or place.endswith("/") or len(read(name).split("\n")[at - 1].split()) != 2:
-                findings.append(Finding(name, at, "no line of a source and a folder"))
+            most = 2 if name == COPIES else 3
+            if not place.startswith("/") or place.endswith("/") or len(read(name).split("\n")[at - 1].split()) > most:
+                findings.append(Finding(name, at, "no line of a source, a folder and perhaps a name"))
             if source in seen:
                 findings.append(Finding(name, at, f"{source} is there twice"))
             if place == "/usr/bin" and not all(interpreter(item) for item in own):
                 findings.append(Finding(name, at, f"{source} has no first line that names its program"))
             seen.add(source)
     for item in files():
-        is_of_machine = item.startswith(("service/", "replicas/")) and suffix(item) != ".md"
-        if is_of_machine and item not in covered and item not in LEFT_OUT:
+        is_of_machine = item.startswith(OF_MACHINE) and not item.startswith(LEFT_OUT) and suffix(item) != ".md"
+        if is_of_machine and item not in covered:
             findings.append(Finding(item, 1, f"it is in no package: add it to {' or '.join(LISTS[:2])}"))
     return [item for item in findings if item.file in names]
 
@@ -127,7 +131,7 @@ def completion(names: list[str]) -> list[Finding]:
         done = call(["bash", "-n", made])
     findings = [Finding(names[0], 1, f"{mark} is still there") for mark in re.findall(r"@[A-Z]+@", text)]
     if done.status or done.text:
-        source = read("packaging/completion")
+        source = read("deploy/packaging/completion")
         at, more = re.search(r"line (\d+)", done.text), text.count("\n") - source.count("\n")
         place, line = line_of(source, "@OPERANDS@"), int(at[1]) if at else 1
         findings.append(Finding(names[0], line if line < place else max(place, line - more), done.text.strip()[:200]))

@@ -147,7 +147,7 @@ def declared(name: str, text: str) -> list[Finding]:
 def css_files(names: list[str]) -> list[Finding]:
     """Reads each style sheet; a colour or length of a name that none defines is a finding too."""
     findings = [finding for name in names for finding in css_file(name)]
-    everywhere = [item for item in files() if item.startswith("web/") and item.endswith((".css", ".js", ".html"))]
+    everywhere = [item for item in files() if item.startswith("page/") and item.endswith((".css", ".js", ".html"))]
     source = "\n".join(map(read, everywhere))
     defined = set(re.findall(r"(--[\w-]+)[\"']?\s*[:,]", source))
     made = tuple(re.findall(r"(--[\w-]+)\$\{", source))

@@ -27,5 +27,5 @@ def shellcheck(names: list[str]) -> list[Finding]:
     """Has shellcheck look for what is likely wrong; it follows what a script sources."""
     need("shellcheck")
     scripts = [name for name in names if interpreter(name)]
-    output = call(["shellcheck", "-x", "-P", "SCRIPTDIR", "-S", "warning", "-f", "gcc", *scripts], cwd=TOP).text
+    output = call(["shellcheck", "-x", "-P", "SCRIPTDIR:SCRIPTDIR/..", "-S", "warning", "-f", "gcc", *scripts], cwd=TOP).text
     return findings_in(output, SHELLCHECK)

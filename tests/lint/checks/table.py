@@ -21,7 +21,7 @@ class Check(NamedTuple):
 
 def is_script(name: str) -> bool:
     """Whether a file is read by a shell: a script, or the completion, which has no first line."""
-    return is_shell(name) or name == "packaging/completion"
+    return is_shell(name) or name == "deploy/packaging/completion"
 
 
 def is_javascript(name: str) -> bool:
@@ -31,7 +31,7 @@ def is_javascript(name: str) -> bool:
 
 def is_of_page(name: str) -> bool:
     """Whether a file is a module of the page."""
-    return name.startswith("web/") and suffix(name) == ".js"
+    return name.startswith("page/") and suffix(name) == ".js"
 
 
 def ends(*endings: str) -> Callable[[str], bool]:
@@ -41,7 +41,7 @@ def ends(*endings: str) -> Callable[[str], bool]:
 
 def is_of_texts(name: str) -> bool:
     """Whether a file has texts of the page, names them, or has the tables that they are compared with."""
-    is_of_web = name.startswith("web/") and name.endswith((".js", ".html", ".json"))
+    is_of_web = name.startswith("page/") and name.endswith((".js", ".html", ".json"))
     return is_of_web or name in ("docs/ERRORS.md", "docs/WEB.md")
 
 
@@ -77,16 +77,16 @@ CHECKS = (
     Check("environment", "settings that units read", ends("city.conf", "city.mail", "etcd.conf"), machine.environment),
     Check("keepalived", "blocks of keepalived are balanced", ends("keepalived.conf"), machine.keepalived),
     Check("access", "settings of a gate, by office-gate", ends(".access"), machine.access),
-    Check("members", "settings of a member, by the member", ends("service/replicas/city.json"), machine.members),
+    Check("members", "settings of a member, by the member", ends("companions/members/setup/city.json"), machine.members),
     Check("lists", "what the packages have is there, and what is there they have",
-          lambda name: name in package.LISTS or name.startswith(("service/", "replicas/")), package.lists),
+          lambda name: name in package.LISTS or name.startswith(package.OF_MACHINE), package.lists),
     Check("manual", "manual pages, by groff", package.has_page, package.manuals),
-    Check("completion", "the completion as it is made, by bash", ends("packaging/completion"), package.completion),
+    Check("completion", "the completion as it is made, by bash", ends("deploy/packaging/completion"), package.completion),
     Check("hooks", "what Debian runs before and after, as it is made", ends("/postinst", "/prerm", "/postrm"),
           package.hooks),
     Check("changelog", "the versions, in Debian's form", lambda name: name == "CHANGELOG.md", package.changelog),
     Check("mutants", "planted mistakes of the companions can still be planted", mutants.is_planted, mutants.applied),
     Check("c", "C, by the compiler", ends(".c"), c_files.parsed),
-    Check("copyright", "the copyright names a holder and a licence", ends("packaging/copyright"),
+    Check("copyright", "the copyright names a holder and a licence", ends("deploy/packaging/copyright"),
           package.copyright_text),
 )

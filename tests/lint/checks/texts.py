@@ -1,4 +1,4 @@
-"""The texts of the page: what tests/web/texts.py judges, and that no text is there which no file of web/ names."""
+"""The texts of the page: what tests/web/texts.py judges, and that no text is there which no file of page/ names."""
 from __future__ import annotations
 
 import importlib
@@ -10,7 +10,7 @@ from typing import Any
 from checks.finding import Finding, line_at
 from checks.tree import TOP, files, read
 
-ENGLISH = "web/texts/en.json"
+ENGLISH = "page/texts/en.json"
 TABLES = ("refusals", "faults", "statuses", "members", "proxy", "help")
 """parts that the page reads by numbers and names that the office answers with"""
 PLACE = re.compile(r"\$\{[^{}]*(?:\{[^{}]*\}[^{}]*)*\}")
@@ -41,12 +41,12 @@ def line_of_key(name: str, key: str) -> int:
 
 def place_of(judgement: str, key: str) -> tuple[str, int]:
     """Returns the file and the line that a judgement of tests/web/texts.py is about."""
-    if judgement.startswith("web/texts/"):
+    if judgement.startswith("page/texts/"):
         name = judgement.split(" ")[0]
         return name, line_of_key(name, key)
     if "the page names" in judgement:
         for name in files():
-            if name.startswith("web/") and name.endswith((".js", ".html")) and f'"{key}"' in read(name):
+            if name.startswith("page/") and name.endswith((".js", ".html")) and f'"{key}"' in read(name):
                 return name, line_at(read(name), read(name).index(f'"{key}"'))
     if judgement.startswith("docs/ERRORS.md"):
         return ENGLISH, line_of_key(ENGLISH, key)
@@ -91,8 +91,8 @@ def patterns_in(source: str) -> list[re.Pattern[str]]:
 
 
 def unnamed() -> list[Finding]:
-    """Finds texts that no file of web/ names: outright, by its part and a word, or by a text with places."""
-    source = "\n".join(read(name) for name in files() if name.startswith("web/") and name.endswith((".js", ".html")))
+    """Finds texts that no file of page/ names: outright, by its part and a word, or by a text with places."""
+    source = "\n".join(read(name) for name in files() if name.startswith("page/") and name.endswith((".js", ".html")))
     literals = set(re.findall(r"[\"`]([A-Za-z][\w.-]*)[\"`]", source))
     single = set(re.findall(r"[\w-]+", source))
     patterns = patterns_in(source)
@@ -113,7 +113,7 @@ def unnamed() -> list[Finding]:
         is_part_named = any(item in literals or is_made(item) for item in parts)
         is_named = key in literals or is_made(key) or is_word(last) and is_part_named
         if key.split(".")[0] not in (*TABLES, "lang") and not is_named:
-            findings.append(Finding(ENGLISH, line_of_key(ENGLISH, key), f"no file of web/ names {key}"))
+            findings.append(Finding(ENGLISH, line_of_key(ENGLISH, key), f"no file of page/ names {key}"))
     return findings
 
 

@@ -30,12 +30,13 @@ class Group(NamedTuple):
 
 
 GROUPS = (
-    Group("service/gate", ".:..:../vault"),
-    Group("service/vault", ".:.."),
-    Group("service", ".:gate:vault"),
-    Group("replicas", ".:../service"),
-    Group("packaging"),
-    Group("tools", ".:../service"),
+    Group("companions/gate", ".:..:../vault"),
+    Group("companions/vault", ".:.."),
+    Group("companions", ".:copies:gate:registers:seals:serve:vault"),
+    Group("companions/members", ".:.."),
+    Group("deploy/packaging"),
+    Group("companions/sheets", ".:.."),
+    Group("companions/transfer", ".:.."),
     Group("tests/lint", ".:.."),
     Group("tests", only=("tests/kit/",)),
 )

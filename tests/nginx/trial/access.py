@@ -89,7 +89,7 @@ def answers(folder: str) -> None:
 def opening(folder: str) -> None:
     """To open the page takes one password; its files take none, and a browser that has them asks whether they changed."""
     error("the page itself takes a password", ask("GET", f"{folder}web/", name=None), 401, "password")
-    web = place.TOP / "web"
+    web = place.TOP / "page"
     files = [str(it.relative_to(web)) for it in sorted(web.rglob("*")) if it.is_file()]
     began = time.monotonic()
     seen = {name: ask("GET", f"{folder}web/{name}", name=None) for name in files}

@@ -74,6 +74,6 @@ def guesses(folder: str) -> None:
         ask("GET", f"{folder}records/1", name=name, password="wrong")
     new = pathlib.Path("/run/guesses")
     new.write_text("\n".join(log.read_text().splitlines()[begin:]) + "\n")
-    done = run(f"fail2ban-regex {new} service/nginx/fail2ban/filter.d/office.conf")
+    done = run(f"fail2ban-regex {new} deploy/nginx/fail2ban/filter.d/office.conf")
     judge("fail2ban counts the three wrong passwords", "Lines: 6 lines, 0 ignored, 3 matched, 3 missed" in done.stdout,
           done.stdout[-700:])

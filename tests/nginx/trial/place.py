@@ -25,7 +25,7 @@ CERTIFICATE = "/etc/nginx/office/office.crt"
 JOURNAL = pathlib.Path("/var/log/office/acts.log")
 HERE = {"Origin": "https://localhost"}
 # commands of a machine that runs systemd, or that fetch packages
-NOT_HERE = ("apt-get", "systemctl", "curl", "fail2ban", "cp service/nginx/fail2ban")
+NOT_HERE = ("apt-get", "systemctl", "curl", "fail2ban", "cp deploy/nginx/fail2ban")
 
 
 class Answer(NamedTuple):
@@ -54,7 +54,7 @@ def install(site: str) -> None:
     for command in commands():
         if command.startswith(NOT_HERE):
             continue
-        call = command.replace("service/nginx/offices.conf", f"service/nginx/{site}")
+        call = command.replace("deploy/nginx/offices.conf", f"deploy/nginx/{site}")
         done = run(call)
         judge(f"{site}: {call}", done.returncode == 0, done.stdout)
     run(f"htpasswd -iB -C 10 {NAMES} reader <<< \"$PASSWORD\"")

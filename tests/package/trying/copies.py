@@ -70,7 +70,7 @@ def judge_list(top: pathlib.Path) -> None:
     judge("the package has the list of all versions", len(lines) > 15 and lines == copies.text().splitlines(), lines)
     places = {line.split()[1] for line in lines}
     own = {"actors.conf", "vaults.conf", "gate_tokens.conf"}
-    nginx = {it.name for it in (TOP / "service/nginx").glob("*.conf")} - own
+    nginx = {it.name for it in (TOP / "deploy/nginx").glob("*.conf")} - own
     listed = {line.split()[0].split("/")[-1] for line in lines}
     judge("with each file of nginx but those that a city fills", nginx <= listed, sorted(nginx - listed))
     judge("and rules and rotations", {"/etc/office-gate.nft", "/etc/logrotate.d/office-journal"} <= places, sorted(places))

@@ -13,7 +13,7 @@ from kit.judging import judge
 from trying.machine import run
 
 PROGRAM = pathlib.Path(os.environ.get("OFFICE", TOP / "crates/office/out/office")).resolve()
-MAKE = TOP / "packaging/make"
+MAKE = TOP / "deploy/packaging/make"
 # who makes it, in each trial
 BY = {"DEBFULLNAME": "Office of the trial", "DEBEMAIL": "office@trial.example"}
 
@@ -27,10 +27,14 @@ def make(place: pathlib.Path, changelog: pathlib.Path | None = None) -> pathlib.
 
 
 def judge_list() -> None:
-    """No file of service is forgotten, and what is listed is there."""
+    """No file of companions and deploy is forgotten, and what is listed is there."""
     sources = {it.source for it in staging.listed()}
-    missing = [it.name for it in sorted((TOP / "service").iterdir()) if it.is_file() and it not in sources]
-    judge("the list has each file of service", not missing, missing)
+    listed = sources | {it.source for it in staging.listed(staging.REPLICAS)}
+    files = [it for folder in ("companions", "deploy") for it in sorted((TOP / folder).rglob("*")) if it.is_file()]
+    left_out = ("__pycache__", "packaging", "three")
+    missing = [str(it.relative_to(TOP)) for it in files if it.suffix != ".md" and not listed & {it, *it.parents}
+               and not any(part in left_out for part in it.parts)]
+    judge("the list has each file of companions and deploy", not missing, missing)
     judge("each file of the list is there", all(it.exists() for it in sources))
     within = {it.relative_to(TOP).parts[0] for it in sources}
     judge("nothing of it is a trial or a measure", not within & {"tests", "bench"}, within)
@@ -107,17 +111,19 @@ def judge_completion(top: pathlib.Path) -> None:
 def judge_tools(top: pathlib.Path) -> None:
     """The tools of the pages work where the package puts them: a list of acts is read, and a sheet converted."""
     here = top / "usr/share/doc/office"
-    done = run(["python3", "-B", here / "tools/check", here / "examples/first/acts.json"])
-    judge("the package's tools/check reads a list", done.status == 0 and done.out.startswith("acts: 6, wrong: 0;"), done)
-    done = run(["python3", "-B", here / "tools/convert", here / "examples/import/letters.csv"])
-    judge("the package's tools/convert reads a sheet", done.status == 0 and done.out.count("\n") > 1, done)
+    done = run([top / "usr/bin/office-check", here / "examples/first/acts.json"])
+    judge("the package's office-check reads a list", done.status == 0 and done.out.startswith("acts: 6, wrong: 0;"), done)
+    done = run([here / "tools/check", here / "examples/first/acts.json"])
+    judge("at its place of before too", done.status == 0 and done.out.startswith("acts: 6, wrong: 0;"), done)
+    done = run([top / "usr/bin/office-convert", here / "examples/import/letters.csv"])
+    judge("the package's office-convert reads a sheet", done.status == 0 and done.out.count("\n") > 1, done)
 
 
 def judge_named(top: pathlib.Path) -> None:
-    """What the commands of the pages copy from service is in the package, but for what it puts elsewhere."""
+    """What the commands of the pages copy is in the package, but for what it puts elsewhere."""
     doc = top / "usr/share/doc/office"
     page = "\n".join((TOP / f"docs/{it}.md").read_text() for it in ("INSTALL", "SERVICE", "BACKUP", "WATCHING"))
-    copied = re.findall(r"(?m)(?<=[ ])service/[\w@./*-]+", "\n".join(re.findall(r"(?m)^    .*", page)))
+    copied = re.findall(r"(?m)(?<=[ ])(?:companions|deploy)/[\w@./*-]+", "\n".join(re.findall(r"(?m)^    .*", page)))
     named = {str(it.relative_to(TOP)) for pattern in copied for it in TOP.glob(pattern)} | {it for it in copied if "*" not in it}
     elsewhere = {it.source for it in staging.listed() if not f"/{it.folder}".startswith("/usr/share/doc")}
     missing = sorted(it for it in named if TOP / it not in elsewhere and not (doc / it).exists())
@@ -135,7 +141,7 @@ def clone(place: pathlib.Path) -> pathlib.Path:
     top = place / "clone"
     out = top / "crates/office/out"
     out.mkdir(parents=True)
-    for name in ("docs", "examples", "packaging", "service", "tools", "web"):
+    for name in ("companions", "deploy", "docs", "examples", "page"):
         shutil.copytree(TOP / name, top / name, ignore=shutil.ignore_patterns("__pycache__"))
     for name in ("office", "crates.txt", "README.md", "CHANGELOG.md"):
         shutil.copy(TOP / name, top)

@@ -1,4 +1,4 @@
-"""tools/convert and tools/intake put large files in, through nginx with names and TLS; what they say if that fails."""
+"""office-convert and office-intake put large files in, through nginx with names and TLS; what they say if that fails."""
 import base64
 import csv
 import os
@@ -8,7 +8,7 @@ import sys
 
 from vault_trial.answers import digest
 from kit.judging import judge, same
-from vault_trial.places import TOP
+from kit.companions import companion
 from vault_trial.proxy import NAMES, Proxy
 from vault_trial.standin import StandIn
 from vault_trial.world import World, free_port
@@ -29,7 +29,7 @@ class Tools:
         login = self.folder / f"{name}.login"
         login.write_text(f"{name}:{NAMES[name]}\n")
         where = ["--vault", f"https://localhost:{self.proxy.port}/{city}", "--login", login, "--ca", self.proxy.folder / "office.crt"]
-        call = [sys.executable, "-B", TOP / "tools" / tool, *words, *where]
+        call = [sys.executable, "-B", companion(f"office-{tool}"), *words, *where]
         return subprocess.run(list(map(str, call)), capture_output=True, text=True)
 
 

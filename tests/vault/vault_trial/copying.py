@@ -6,10 +6,11 @@ import subprocess
 import time
 from dataclasses import dataclass
 
+from kit.companions import companion
 from vault_trial import forked
 from vault_trial.expected import GRACE
 from vault_trial.office import Record
-from vault_trial.places import COMMAND, SCRIPTS
+from vault_trial.places import COMMAND
 from vault_trial.world import World
 
 MOST_COPIES = 3
@@ -66,7 +67,7 @@ class Copies:
         number = it.copies + 1
         path = self.folder / f"20240102T{number // 3600:02}{number // 60 % 60:02}{number % 60:02}Z.db"
         it.copies += 1
-        words = [str(SCRIPTS / "office-backup"), str(it.office.file), str(path)]
+        words = [str(companion("office-backup")), str(it.office.file), str(path)]
         if it.random.random() < 0.4:
             self.kills["backup kills"] += self.killed(words, 0.6)
         if not path.exists():
@@ -146,7 +147,7 @@ class Copies:
     def restore_file(self, one: Copy) -> None:
         """Calls office-restore until it has ended: it may be killed, and it asks for its text to be read."""
         it = self.it
-        words = [str(SCRIPTS / "office-restore"), str(it.office.file), str(one.path)]
+        words = [str(companion("office-restore")), str(it.office.file), str(one.path)]
         for _ in range(it.random.randint(0, 2)):
             self.kills["restore kills"] += self.killed(words, 0.8)
         while True:

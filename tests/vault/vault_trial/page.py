@@ -51,7 +51,7 @@ def cut(chance: random.Random) -> tuple[bytes, list[int]]:
 
 def tried(folder: pathlib.Path) -> None:
     folder.mkdir(parents=True)
-    shutil.copytree(TOP / "web/plain", folder / "plain")
+    shutil.copytree(TOP / "page/plain", folder / "plain")
     (folder / "package.json").write_text('{"type":"module"}')
     (folder / "script.mjs").write_text(SCRIPT)
     chance = random.Random(73)

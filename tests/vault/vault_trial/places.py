@@ -6,10 +6,9 @@ import sys
 HERE = pathlib.Path(__file__).resolve().parent.parent
 TOP = HERE.parent.parent
 OFFICE = os.environ.get("OFFICE", "office")
-VAULT = pathlib.Path(os.environ.get("VAULT_SOURCES", TOP / "service/vault"))
+VAULT = pathlib.Path(os.environ.get("VAULT_SOURCES", TOP / "companions/vault"))
 COMMAND = str(VAULT / "office-vault")
-SCRIPTS = TOP / "service"
-NGINX = TOP / "service/nginx"
+NGINX = TOP / "deploy/nginx"
 
 sys.dont_write_bytecode = True
 # the floor lies beside the folder of the vault, also beside one with a planted mistake

@@ -4,15 +4,15 @@ import pathlib
 import subprocess
 
 from vault_trial.copying import Copies
+from kit.companions import companion
 from kit.judging import judge, same
-from vault_trial.places import SCRIPTS
 from vault_trial.world import World
 
 
 def night(it: World, copies: Copies, day: int) -> pathlib.Path:
     """FILE first, then the vault."""
     path = copies.folder / f"2024010{day}T000000Z.db"
-    done = subprocess.run([str(SCRIPTS / "office-backup"), str(it.office.file), str(path)], env=it.environment(),
+    done = subprocess.run([str(companion("office-backup")), str(it.office.file), str(path)], env=it.environment(),
                           capture_output=True, text=True)
     same("FILE is copied", (done.returncode, done.stderr), (0, ""))
     done = it.run("mirror", it.vault, copies.second, "--reserve", "0")
@@ -34,7 +34,7 @@ def by_copies(it: World, copies: Copies, names: set[str]) -> None:
 def restore(it: World, number: int, path: pathlib.Path) -> None:
     """Puts the copy in the place of FILE, by office-restore."""
     it.office.stop()
-    words = [str(SCRIPTS / "office-restore"), str(it.office.file), str(path)]
+    words = [str(companion("office-restore")), str(it.office.file), str(path)]
     done = subprocess.run(words, env=it.environment(), capture_output=True, text=True)
     judge("office-restore wants its text read", done.returncode == 1 and "to destroy or transfer again" in done.stdout,
           done.stdout + done.stderr)

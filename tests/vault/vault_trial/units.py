@@ -7,10 +7,11 @@ import shutil
 import subprocess
 
 import small_debian
+from kit.companions import companion, package
 from kit.systemd import Booted
 from kit.units import lay_out
 from kit.judging import judge, same
-from vault_trial.places import OFFICE, SCRIPTS, VAULT
+from vault_trial.places import OFFICE
 
 CITY = "/var/lib/office-vaults/city"
 SECOND = "/var/lib/office-vault-backups/city"
@@ -32,15 +33,13 @@ class Machine(Booted):
         for it in places:
             it.mkdir(parents=True, exist_ok=True)
         shutil.copy(shutil.which(OFFICE) or OFFICE, places[0] / "office")
-        for it in [*SCRIPTS.glob("office-*"), VAULT / "office-vault"]:
-            if it.is_file() and "." not in it.name:
-                shutil.copy(it, places[0])
-        for it in ("office_serve", "office_common"):
-            shutil.copytree(SCRIPTS / it, places[1] / it)
-        shutil.copytree(VAULT / "office_vault", places[1] / "office_vault")
-        lay_out(places[2], SCRIPTS, VAULT)
+        for it in ("backup", "encrypt", "failed", "prune", "restore", "serve", "shared", "vault"):
+            shutil.copy(companion(f"office-{it}"), places[0])
+        for it in ("office_common", "office_serve", "office_vault"):
+            shutil.copytree(package(it), places[1] / it)
+        lay_out(places[2])
         (self.top / "etc/office").mkdir(exist_ok=True)
-        shutil.copy(SCRIPTS / "city.conf", self.top / "etc/office/city.conf")
+        shutil.copy(companion("city.conf"), self.top / "etc/office/city.conf")
         (self.top / "root/file").write_bytes(DATA)
 
     def run(self, command: str) -> tuple[int, str]:

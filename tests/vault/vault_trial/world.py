@@ -10,11 +10,12 @@ import socket
 import subprocess
 import time
 
+from kit.companions import companion
 from kit.ports import free_port
 from vault_trial import forked
 from vault_trial.expected import GRACE, Expected
 from vault_trial.office import Office
-from vault_trial.places import COMMAND, HERE, OFFICE, SCRIPTS
+from vault_trial.places import COMMAND, HERE, OFFICE
 from vault_trial.standin import StandIn
 
 from office_common.manifest import Named, text_of
@@ -57,7 +58,7 @@ class World:
         self.copies += 1
         by_program = self.copies % int(os.environ.get("COPIES", "12")) == 0
         return {**os.environ, "PATH": f"{HERE}/fast:{os.environ['PATH']}", "KEPT": str(self.kept),
-                "BACKUP": str(SCRIPTS / "office-backup"),
+                "BACKUP": str(companion("office-backup")),
                 "OFFICE": OFFICE if by_program else str(HERE / "opened-by-sqlite")}
 
     def run(self, *words: object, stop: str = "plain") -> forked.Done:

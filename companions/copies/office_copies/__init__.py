@@ -1,0 +1,1 @@
+"""What an office has since a copy of it was taken."""

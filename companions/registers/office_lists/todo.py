@@ -1,0 +1,102 @@
+"""Prints what waits for somebody in the copy of an office on a day, with a count of days to confirm.
+
+    todo.py COPY DAY COUNT
+
+office-todo runs it, as the owner of the copy. What is due and overdue are the program's own registers; all else is what
+the tables of the copy have.
+"""
+import contextlib
+import csv
+import pathlib
+import subprocess
+import sys
+from collections import Counter
+from collections.abc import Iterator
+
+sys.dont_write_bytecode = True
+sys.path[:0] = [str(folder) for folder in pathlib.Path(__file__).resolve().parents[1:3]
+                if (folder / "office_lists").is_dir() or (folder / "office_common").is_dir()]
+
+from office_common import command, files, program  # noqa: E402
+
+NAME = "office-todo"
+OPEN_RUNS = "SELECT 'run ' || num || ', opened on ' || date(day * 86400, 'unixepoch') FROM runs WHERE closed = 0"
+RECEIVED = "SELECT count(*) FROM records WHERE status = 'received'"
+STILL = """
+SELECT count(*) FROM (SELECT a.num FROM aggregations a LEFT JOIN records r ON r.aggregation = a.num
+  WHERE a.closed IS NULL AND a.num NOT IN (SELECT parent FROM aggregations WHERE closed IS NULL AND parent IS NOT NULL)
+  GROUP BY a.num HAVING max(r.added) IS NULL OR max(r.added) < unixepoch(?, '-12 months') / 86400)"""
+EVENTS = """
+WITH RECURSIVE up(num, at, class) AS (SELECT num, parent, class FROM aggregations
+  UNION ALL SELECT up.num, a.parent, a.class FROM up JOIN aggregations a ON a.num = up.at WHERE up.class IS NULL)
+SELECT c.code, s.code, count(*) FROM records r JOIN up ON up.num = r.aggregation AND up.class IS NOT NULL
+  JOIN classes c ON c.code = coalesce(r.class, up.class) JOIN schedules2 s ON s.code = coalesce(r.schedule, c.schedule)
+  WHERE r.status = 'here' AND s.start_at = 'event' AND s.disposal <> 'keep'
+    AND NOT EXISTS (SELECT 1 FROM events WHERE record = r.num) GROUP BY c.code, s.code"""
+HOLDS = """
+SELECT code, 'since', date(placed * 86400, 'unixepoch') FROM holds
+  WHERE lifted IS NULL AND placed <= unixepoch(?, '-12 months') / 86400 ORDER BY placed, code"""
+
+
+def register(*args: str) -> Iterator[dict[str, str]]:
+    """Reads a register that the program prints, row by row. It says itself why it prints none."""
+    with subprocess.Popen([program.find(), *args], stdin=subprocess.DEVNULL, stdout=subprocess.PIPE, text=True,
+                          encoding="utf-8") as process:
+        assert process.stdout is not None
+        yield from csv.DictReader(process.stdout)
+    if process.returncode:
+        sys.exit(process.returncode)
+
+
+def due(rows: Iterator[dict[str, str]]) -> Counter[str]:
+    """Counts what is due, by what somebody has to do with it."""
+    counts: Counter[str] = Counter()
+    for row in rows:
+        action, is_held, is_confirmed = row["action"], row["held"] != "", row["confirmed"] == "yes"
+        if action == "review":
+            counts["review"] += 1
+        elif not is_confirmed:
+            counts["open"] += not is_held
+        elif action == "destroy":
+            counts["kept" if is_held else "destroy"] += 1
+        else:
+            counts["send"] += action == "transfer"
+    return counts
+
+
+def line(title: str, value: object) -> str:
+    return f"{f'{title}:':48}{value}"
+
+
+def by_registers(copy: str, day: str, count: str) -> Iterator[str]:
+    """Lists what the registers of a day have."""
+    counts = due(register("export", copy, day))
+    yield line(f"Overdue, with {count} days to confirm", sum(1 for _ in register("overdue", copy, day, count)))
+    yield line("Due, neither confirmed nor held", counts["open"])
+    yield line("To be reviewed", counts["review"])
+    yield line("Ready for a run, which would destroy", counts["destroy"])
+    yield line("Ready for a run, which would send", counts["send"])
+    yield line("Confirmed, and kept by a hold", counts["kept"])
+
+
+def by_tables(copy: str, day: str) -> Iterator[str]:
+    """Lists what waits by the tables of the copy."""
+    with contextlib.closing(files.tables_of(pathlib.Path(copy))) as tables:
+        runs = tables.execute(OPEN_RUNS).fetchall() or [("none",)]
+        yield line("Open run", "\n".join(run for run, in runs))
+        yield line("Received, and ended by the next run", tables.execute(RECEIVED).fetchone()[0])
+        yield line("Open files without addition for a year", tables.execute(STILL, [day]).fetchone()[0])
+        yield "Waiting for an event, by class and schedule:"
+        yield from (" ".join(["   ", *map(str, row)]) for row in tables.execute(EVENTS))
+        yield "Holds in force for a year or longer:"
+        yield from (" ".join(["   ", *row]) for row in tables.execute(HOLDS, [day]))
+
+
+def show(copy: str, day: str, count: str) -> None:
+    """Prints the list, once it is whole."""
+    lines = [f"To do on {day}", "", *by_registers(copy, day, count), *by_tables(copy, day)]
+    print("\n".join(lines))
+
+
+if __name__ == "__main__":
+    sys.exit(command.run(NAME, lambda: show(*sys.argv[1:])))

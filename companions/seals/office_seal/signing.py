@@ -1,0 +1,132 @@
+"""Signs a certificate by ssh-keygen, as one more seal of the chain."""
+import os
+import pathlib
+import shutil
+import subprocess
+import time
+from dataclasses import dataclass
+
+from office_common import files
+from office_common.errors import IMPOSSIBLE, USAGE, WRONG, Refused
+
+from office_seal import chain, fetching
+from office_seal.chain import Seal
+
+# what ssh-keygen writes into a signature, so that it counts for nothing else
+SPACE = "office-seal"
+NEW = ".new"
+# what the unit office-seal@ gives for a key if root's file of it is not there
+LOST = b"lost"
+
+
+def tool(*words: str, data: bytes = b"") -> bytes:
+    """Runs a program and returns what it prints."""
+    try:
+        done = subprocess.run(words, input=data, capture_output=True, check=False,
+                              env={**os.environ, "SSH_ASKPASS_REQUIRE": "never", "LC_ALL": "C"})
+    except OSError as why:
+        raise Refused(IMPOSSIBLE, f"there is no {words[0]}: {why.strerror}") from why
+    if done.returncode:
+        raise Refused(IMPOSSIBLE, f"{words[0]}: {(done.stderr or done.stdout).decode(errors='replace').strip()}")
+    return done.stdout
+
+
+def fingerprint(line: bytes) -> str:
+    """The fingerprint in a line that ssh-keygen prints."""
+    return next((it for it in line.decode(errors="replace").split() if it.startswith("SHA256:")), "")
+
+
+def signer(seal: Seal) -> str:
+    """The fingerprint of the key that signed a seal."""
+    signed = (seal.folder / "seal.txt").read_bytes()
+    return fingerprint(tool("ssh-keygen", "-Y", "check-novalidate", "-n", SPACE, "-s",
+                            str(seal.folder / "seal.txt.sig"), data=signed))
+
+
+def keys_in(file: pathlib.Path | None) -> set[str]:
+    """The fingerprints of the public keys in a file."""
+    if file is None:
+        return set()
+    return {fingerprint(it) for it in tool("ssh-keygen", "-l", "-f", str(file)).splitlines()} - {""}
+
+
+@dataclass(frozen=True)
+class Sealer:
+    """An office that seals: the folder of its seals, its name, its key, and whether it may go on after a wrong clock."""
+
+    seals: pathlib.Path
+    office: str
+    key: pathlib.Path
+    was_clock_wrong: bool = False
+
+    def chain(self) -> list[Seal]:
+        """The seals that are there. An office that has a seal had a key."""
+        there = chain.read(self.seals, self.office)
+        if not self.key.is_file() or self.key.read_bytes().strip() == LOST:
+            lost = f"the key is lost, and nothing follows seal {there[-1].number}" if there else "there is no key"
+            raise Refused(USAGE, f"{lost}: EVIDENCE.md, Keys")
+        return there
+
+    def moment(self, there: list[Seal]) -> str:
+        """The moment of the next seal, which is not before that of the last one."""
+        now = time.strftime("%Y-%m-%dT%H:%M:%SZ", time.gmtime())
+        if there and now < there[-1].at and not self.was_clock_wrong:
+            raise Refused(IMPOSSIBLE, f"the clock of this machine is at {now}, and seal {there[-1].number} at "
+                                      f"{there[-1].at}: set the clock. If it was wrong then, --clock-was-wrong seals all "
+                                      "the same, and office-verify reports the place")
+        return now
+
+    def add(self, there: list[Seal], body: bytes, number: int, why: str) -> None:
+        """Makes the next seal in a folder of its own, and puts it in its place by one rename."""
+        at, moment = len(there) + 1, self.moment(there)
+        folder = self.seals / NEW
+        shutil.rmtree(folder, ignore_errors=True)
+        folder.mkdir()
+        files.write(folder / f"certificate-{number}.txt", body)
+        before = there[-1].own if there else chain.FIRST
+        text = chain.text(at, self.office, number, chain.digest(body), before, moment, why)
+        files.write(folder / "seal.txt", text)
+        tool("ssh-keygen", "-q", "-Y", "sign", "-f", str(self.key), "-n", SPACE, str(folder / "seal.txt"))
+        # read back as ssh-keygen wrote it, and then on the disk
+        files.write(folder / "seal.txt.sig", (folder / "seal.txt.sig").read_bytes())
+        done = self.seals / f"{at:06}"
+        os.rename(folder, done)
+        files.sync(self.seals)
+        there.append(Seal(done, at, self.office, number, chain.digest(body), before, moment, chain.digest(text)))
+
+
+def sign(certificates: pathlib.Path, sealer: Sealer, is_restored: bool) -> int:
+    """Seals each certificate that has no seal: how many. A second text of one number needs the word for a restore."""
+    with files.locked(sealer.seals):
+        there, new = sealer.chain(), 0
+        sealed: dict[int, set[str]] = {}
+        for it in there:
+            sealed.setdefault(it.certificate, set()).add(it.digest)
+        for number, file in fetching.kept(certificates).items():
+            body = file.read_bytes()
+            texts = sealed.get(number, set())
+            if chain.digest(body) in texts:
+                continue
+            if texts and not is_restored:
+                raise Refused(WRONG, f"certificate {number} is sealed with another text than {file}: {fetching.ADVICE}")
+            sealer.add(there, body, number, "restored" if texts else "closed")
+            new += 1
+        return new
+
+
+def sign_anew(certificates: pathlib.Path, sealer: Sealer, withdrawn: pathlib.Path) -> int:
+    """Seals again each certificate that is kept and that only keys in a file have signed: how many.
+
+    A text that is in the seals alone is not signed again: whoever has such a key may have put it there.
+    """
+    with files.locked(sealer.seals):
+        there, gone, new = sealer.chain(), keys_in(withdrawn), 0
+        good = {(it.certificate, it.digest) for it in there if signer(it) not in gone}
+        sealed = {(it.certificate, it.digest) for it in there}
+        for number, file in fetching.kept(certificates).items():
+            body = file.read_bytes()
+            text = (number, chain.digest(body))
+            if text in sealed and text not in good:
+                sealer.add(there, body, number, "key")
+                new += 1
+        return new

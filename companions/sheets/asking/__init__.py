@@ -1,0 +1,1 @@
+"""Asks an office and its vault, for the tools that send."""

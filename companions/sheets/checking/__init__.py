@@ -1,0 +1,1 @@
+"""Reads lists of acts as the program reads them."""

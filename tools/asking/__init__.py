@@ -1,4 +1,0 @@
-"""Asks an office and its vault, for the tools that send."""
-import floor
-
-floor.find()

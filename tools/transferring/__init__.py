@@ -1,4 +1,0 @@
-"""Takes what a run sent out of an office, and reads the archive's list of it."""
-import floor
-
-floor.find()
