@@ -1,4 +1,4 @@
--- The members of a line behind its number. Source: docs/ACCESS.md, "The journal", and the lines of service/gate.
+-- The members of a line behind its number. Source: docs/ACCESS.md, "The journal", and the lines of companions/gate.
 use Rattle.std.specs.Prelude.{◌≡◌, ℕ, List, [], ◌∷◌, ◌++◌, Bool, true, false, codes, decimal, Option, Some, None, ⊤}
 use Rattle.std.specs.List.{flat_map}
 use Rattle.std.specs.Borrow.{Bor}

@@ -119,12 +119,12 @@ fn put_denied(
     map: &mut Map<String, Value>,
     alloc: Global,
     answers: Value,
-    place: u64,
+    position: u64,
     denial: &DenialText<'_>,
 ) -> Result<(), AllocError>
     ensures { OnOk result
         (members_view map.new.entries
-        ≡ with_denial denial.now.reason.now (option_copied denial.now.rule) place
+        ≡ with_denial denial.now.reason.now (option_copied denial.now.rule) position
         (with_member (codes "answers") (view answers) (members_view map.old.entries))) }
 {
     serde_json::put(map, alloc, "answers", answers)?;
@@ -133,7 +133,7 @@ fn put_denied(
         alloc,
         &[
             ("error", MemberValue::Text(denial.reason)),
-            ("place", MemberValue::Number(place)),
+            ("place", MemberValue::Number(position)),
             ("rule", reported_text(denial.rule)),
         ],
     )
@@ -145,15 +145,15 @@ fn put_denied(
 #[tactic(auto, using(crate::proofs::Floatless::denied_has_none), unfolding(crate::specs::Replies::denied_data, crate::specs::Replies::with_denial))]
 pub fn denied_value(
     alloc: Global,
-    answers: &[Answer],
+    earlier: &[Answer],
     place: u64,
     denial: &DenialText<'_>,
 ) -> Result<Value, Memory>
     ensures value { IfOk result (λ value. view value
-        ≡ denied_data answers.now place denial.now.reason.now (option_copied denial.now.rule)) }
+        ≡ denied_data earlier.now place denial.now.reason.now (option_copied denial.now.rule)) }
     ensures no_float { IfOk result (λ value. has_float (view value) ≡ false) }
 {
-    let values = answers_value(alloc, answers)?;
+    let values = answers_value(alloc, earlier)?;
     let mut map = Map::new(alloc);
     put_denied(&mut map, alloc, values, place, denial)?;
     Ok(Value::Object(map))
