@@ -81,7 +81,11 @@ impl Policy {
         ensures { result
             ≡ (if are_apart people.items
             then Some (record {
-            people = people.items; taken = taken.items; others = others; rules = rules })
+              people = people.items;
+              taken = taken.items;
+              others = others;
+              rules = rules;
+            })
             else None) }
     {
         if !are_apart(&people) {

@@ -1,3 +1,4 @@
 pub mod Given
 pub mod NextDenied
 pub mod Visited
+pub mod Visits

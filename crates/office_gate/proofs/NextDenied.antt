@@ -46,11 +46,11 @@ pub permitted_seen : (v : Visitor) (t : State) (acts : List Act) (given found se
 permitted_seen v t acts given found seen machine next denial Reported none same added led looked denied reported =
     let permitted : List Act = permitted_acts_of v t acts in
     let counted : length found ≡ length permitted =
-        ap length (added ∙ ap (λ (gs : List Answer). gs ++ answers t permitted) none) ∙ length-answers permitted t in
+    ap length (added ∙ ap (λ (gs : List Answer). gs ++ answers t permitted) none) ∙ length-answers permitted t in
     let is : denial ≡ denial_in v t acts =
-        denied ∙ ap (λ (s : Office). next_denial v s next) led
-        ∙ ap (λ (o : Option Act). next_denial v (after t permitted).office o) (looked ∙ ap (slice_get acts) counted)
-        ∙ next_denied v t acts in
+    denied ∙ ap (λ (s : Office). next_denial v s next) led
+    ∙ ap (λ (o : Option Act). next_denial v (after t permitted).office o) (looked ∙ ap (slice_get acts) counted)
+    ∙ next_denied v t acts in
     subst (λ (r : Response). Reported r)
     (ap (λ (d : Option Denial). permitted_reply d seen) is ∙ ap (λ (xs : List Answer). permitted_reply (denial_in v t acts) xs) (seen_behind given found seen none same))
     reported

@@ -73,9 +73,15 @@ module _ {S : Type 0} (g : Ghosts S) (gate : Gate) (it : ProxiedRequest) (sendin
   reply : (t : State) (bytes : List ℕ) → IsProxied (proxied.Request it) bytes → sending.is_head ≡ it.request.is_head
       → IsStatedServed g t stated (request_of_kind it.request.kind) (response sending.reply) new → IsStatedReply g t gate bytes sending.is_head (response sending.reply) new
   reply t bytes (h, rest, is, from) head served =
-      inl (asks h rest, is, (head ∙ from.request.is_head,
-      subst (λ (v : Option Visitor). IsStatedServed g t v (office_request h rest) (response sending.reply) new) (is_stated h rest from)
-      (subst (λ (x : OfficeRequest). IsStatedServed g t stated x (response sending.reply) new) from.request.request served)))
+      inl (
+        asks h rest,
+        is,
+        (
+          head ∙ from.request.is_head,
+          subst (λ (v : Option Visitor). IsStatedServed g t v (office_request h rest) (response sending.reply) new) (is_stated h rest from)
+              (subst (λ (x : OfficeRequest). IsStatedServed g t stated x (response sending.reply) new) from.request.request served),
+        ),
+      )
 
   to_send : (t : State) (all : Option (List ℕ)) → IfSome all (λ bytes. IsProxied (proxied.Request it) bytes) → sending.is_head ≡ it.request.is_head
       → IsStatedServed g t stated (request_of_kind it.request.kind) (response sending.reply) new

@@ -27,7 +27,10 @@ fn deny_anywhere(keeper: &Keeper<'_>, acts: &[Act]) -> Option<(usize, Denial)>
     ensures { result ≡ lasting_denial_from (visitor_of keeper.now) 0 acts.now }
 {
     for (place, act) in acts.iter().enumerate() {
-        if let Some(denial) = keeper.policy.permit_anywhere(keeper.today, &keeper.name, act) {
+        if let Some(denial) = keeper
+            .policy
+            .permit_anywhere(keeper.today, &keeper.name, act)
+        {
             return Some((place, denial));
         }
     }
@@ -50,7 +53,9 @@ fn deny_next(keeper: &Keeper<'_>, machine: &Machine, next: Option<&Act>) -> Opti
     ensures { result ≡ next_denial (visitor_of keeper.now) machine.now (option_copied next.entry) }
 {
     match next {
-        Some(act) => keeper.policy.permit(&Snapshot { machine }, keeper.today, &keeper.name, act),
+        Some(act) => keeper
+            .policy
+            .permit(&Snapshot { machine }, keeper.today, &keeper.name, act),
         None => None,
     }
 }

@@ -12,8 +12,7 @@ use crate::gate::Gate;
 use office_base::{Io, Memory};
 use office_desk::Desk;
 use office_http::{
-    Proxied, ProxiedRequest, ReceiveStop, Reply, RequestError, Routes, error_reply,
-    receive_proxied,
+    Proxied, ProxiedRequest, ReceiveStop, Reply, RequestError, Routes, error_reply, receive_proxied,
 };
 use office_wire::{OutgoingReply, Serving, error_to_send, send};
 use sqlite::Alter;

@@ -13,6 +13,7 @@ mod answers;
 mod denials;
 mod exchange;
 mod gate;
+pub mod laws;
 mod readings;
 
 pub use answers::answer_for;

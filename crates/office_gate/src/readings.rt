@@ -29,8 +29,7 @@ fn record_class(tree: &Tree, record_no: RecordNo) -> Option<&Code>
 fn is_in_transit(tree: &Tree, record_no: RecordNo) -> bool
     ensures { result ≡ is_in_transit tree.now record_no }
 {
-    tree.has_record(record_no)
-        && matches!(tree.status(record_no), Status::Sent | Status::Received)
+    tree.has_record(record_no) && matches!(tree.status(record_no), Status::Sent | Status::Received)
 }
 
 /// Finds why the visitor may not read that of the record, if the visitor may not.
@@ -64,11 +63,7 @@ fn deny_whole(keeper: &Keeper<'_>, reading: Reading) -> Option<Denial>
 }
 
 /// Finds why the visitor may not have what the path asks for, if the visitor may not.
-fn deny_path(
-    keeper: &Keeper<'_>,
-    machine: &Machine,
-    request: PathRequest,
-) -> Option<Denial>
+fn deny_path(keeper: &Keeper<'_>, machine: &Machine, request: PathRequest) -> Option<Denial>
     ensures { result ≡ path_denial (visitor_of keeper.now) machine.now request }
 {
     match request {
@@ -88,11 +83,7 @@ fn deny_path(
 
 /// Finds why the visitor may not have what is requested, if the visitor may not. The acts of a body
 /// are asked one by one elsewhere.
-pub(crate) fn deny(
-    keeper: &Keeper<'_>,
-    machine: &Machine,
-    kind: &RequestKind,
-) -> Option<Denial>
+pub(crate) fn deny(keeper: &Keeper<'_>, machine: &Machine, kind: &RequestKind) -> Option<Denial>
     ensures { result
         ≡ request_denial (visitor_of keeper.now) machine.now (request_of_kind kind.now) }
 {
