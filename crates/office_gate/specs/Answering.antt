@@ -6,11 +6,13 @@ use Rattle.office_base.specs.declared.memory.Memory.{Memory}
 use Rattle.office_desk.specs.Desk.{DeskState}
 use Rattle.office_desk.specs.Leaving.{IsAt}
 use Rattle.office_gate.specs.Performing.{ArePerformedFor, lasting_denial_from}
+use Rattle.office_gate.specs.Lists.{ReportsDueFor, ReportsOverdueFor}
 use Rattle.office_gate.specs.Paths.{request_denial}
 use Rattle.office_gate.specs.Replies.{denial_response, denied_response}
 use Rattle.office_gate.specs.Visitors.{Visitor}
 use Rattle.office_http.specs.Receiving.{OfficeRequest, acts, cut, refused, requested}
 use Rattle.office_http.specs.Replies.{Response, error_response}
+use Rattle.office_http.specs.declared.path_request.PathRequest.TheVariants as path
 use Rattle.office_http.specs.declared.reply.Reply.{Reply}
 use Rattle.office_http.specs.declared.request_error.RequestError.TheVariants as error
 use Rattle.office_json.specs.Lists.{NoActs, acts_in, bad_act, not_json}
@@ -38,13 +40,23 @@ PerformsFor Reported g v t (Ok all) desk = PerformsUnlessDenied Reported g v t a
 PerformsFor Reported g v t (Err not_json) desk = Denies Reported g t (error_response error.Json) desk
 PerformsFor Reported g v t (Err (bad_act place why)) desk = Denies Reported g t (bad_act_response place why) desk
 
--- what is requested, if it is not denied: the acts of a body as far as they are permitted, or what else is asked for
+-- what is requested, if it is not denied: the acts of a body as far as they are permitted, the rows of a list that the
+-- visitor may read, or what else is asked for
 abbrev pub PerformsOrServes : {S : Type 0} → (Response → Type 0) → Ghosts S → Visitor → State → OfficeRequest
     → DeskState S → Type 0
 PerformsOrServes Reported g v t (acts body) desk = PerformsFor Reported g v t (acts_in body) desk
 PerformsOrServes Reported g v t (refused check) desk = Serves Reported g t (refused check) desk
 PerformsOrServes Reported g v t cut desk = Serves Reported g t cut desk
-PerformsOrServes Reported g v t (requested request) desk = Serves Reported g t (requested request) desk
+PerformsOrServes Reported g v t (requested path.Resume) desk = Serves Reported g t (requested path.Resume) desk
+PerformsOrServes Reported g v t (requested (path.Record r)) desk =
+    Serves Reported g t (requested (path.Record r)) desk
+PerformsOrServes Reported g v t (requested (path.Content r)) desk =
+    Serves Reported g t (requested (path.Content r)) desk
+PerformsOrServes Reported g v t (requested (path.Due day)) desk = ReportsDueFor Reported g v t day desk
+PerformsOrServes Reported g v t (requested (path.Overdue day count)) desk =
+    ReportsOverdueFor Reported g v t day count desk
+PerformsOrServes Reported g v t (requested (path.Certificate run)) desk =
+    Serves Reported g t (requested (path.Certificate run)) desk
 
 abbrev pub ServesUnlessDenied : {S : Type 0} → (Response → Type 0) → Ghosts S → Visitor → State → OfficeRequest
     → Option Denial → DeskState S → Type 0
@@ -87,3 +99,7 @@ abbrev pub IsAnsweredPermitted : {S : Type 0} → Ghosts S → Visitor → Offic
     → DeskState S → Type 0
 IsAnsweredPermitted g v request given old new =
     AnsweredAt g old new (λ t. IsGivenPermitted g v t request given new) (Unit {0}) (IsGivenUnavailable given)
+
+-- what is requested was read of a desk, which stays as it is, and answered
+abbrev pub IsReadFor : {S : Type 0} → Ghosts S → Visitor → OfficeRequest → Result Reply Memory → DeskState S → Type 0
+IsReadFor g v request given desk = (t : State) → IsAt g t desk → IsGivenPermitted g v t request given desk

@@ -1,5 +1,6 @@
 pub mod Answering
 pub mod Exchanges
+pub mod Lists
 pub mod Paths
 pub mod Performing
 pub mod Replies

@@ -1,7 +1,12 @@
 -- Why a visitor may not have what a path asks for, in the office as it stands. Source: own.
-use Rattle.std.specs.Prelude.{ℕ, Bool, false, ◌&&◌, Option, Some, None}
+use Rattle.std.specs.Prelude.{ℕ, Bool, false, ◌&&◌, if◌then◌else◌, Option, Some, None}
 use Rattle.office_access.specs.Permits.{reading_denial_of, resumption_denial_of}
+use Rattle.office_access.specs.Rights.{may_at_all}
+use Rattle.office_access.specs.Settings.{grants_of}
 use Rattle.office_access.specs.declared.denial.Denial.{Denial}
+use Rattle.office_access.specs.declared.denial.Denial.TheVariants as denial
+use Rattle.office_access.specs.declared.grants.Grants.{Grants}
+use Rattle.office_access.specs.declared.power.Power.TheVariants as power
 use Rattle.office_access.specs.declared.reading.Reading.{Reading}
 use Rattle.office_access.specs.declared.reading.Reading.TheVariants as reading
 use Rattle.office_gate.specs.Visitors.{Visitor}
@@ -27,13 +32,21 @@ record_denial v s what (Some r) =
 abbrev pub whole_denial : Visitor → Reading → Option Denial
 whole_denial v what = reading_denial_of v.settings v.name what None false
 
+abbrev pub lists_denial_by : Option Grants → Option Denial
+lists_denial_by None = Some denial.Name
+lists_denial_by (Some grants) = if may_at_all grants (power.Read reading.Lists) then None else Some denial.Right
+
+-- of lists: whoever has a right to lists of some class gets the rows of these classes
+abbrev pub lists_denial : Visitor → Option Denial
+lists_denial v = lists_denial_by (grants_of v.settings v.name)
+
 -- why a visitor may not have it, if the visitor may not
 abbrev pub path_denial : Visitor → Office → PathRequest → Option Denial
 path_denial v s path.Resume = resumption_denial_of v.settings s v.name
 path_denial v s (path.Record r) = record_denial v s reading.Records r
 path_denial v s (path.Content r) = record_denial v s reading.Contents r
-path_denial v s (path.Due day) = whole_denial v reading.Lists
-path_denial v s (path.Overdue day count) = whole_denial v reading.Lists
+path_denial v s (path.Due day) = lists_denial v
+path_denial v s (path.Overdue day count) = lists_denial v
 path_denial v s (path.Certificate run) = whole_denial v reading.Certificates
 
 -- of what is requested; acts are asked one by one, and what is no request of the office needs no right

@@ -6,17 +6,18 @@ ghost use Rattle.office_http.specs.Receiving.{request_of_kind};
 
 use crate::acts::perform_body_for;
 use crate::denials::denial_reply;
+use crate::lists::{report_due, report_overdue};
 use crate::readings::deny;
 use office_base::Memory;
 use office_desk::Desk;
 use office_guard::Keeper;
-use office_http::{Reply, RequestKind};
+use office_http::{PathRequest, Reply, RequestKind};
 use office_wire::answer;
 use sqlite::Alter;
 use std::alloc::Global;
 
 /// Performs the acts of a body as far as each is permitted, or serves what else is asked for.
-#[tactic(auto, using(crate::proofs::Given::path_answered, crate::proofs::Given::refused_answered, crate::proofs::Given::cut_answered))]
+#[tactic(auto, using(crate::proofs::Given::resume_answered, crate::proofs::Given::record_answered, crate::proofs::Given::content_answered, crate::proofs::Given::certificate_answered, crate::proofs::Given::refused_answered, crate::proofs::Given::cut_answered, crate::proofs::Given::read_answered))]
 fn perform_or_serve<S: Alter>(
     alloc: Global,
     keeper: &Keeper<'_>,
@@ -30,7 +31,14 @@ fn perform_or_serve<S: Alter>(
         RequestKind::Acts(body) => perform_body_for(alloc, keeper, desk, body.as_bytes()),
         RequestKind::Refused(_) => answer(alloc, desk, kind),
         RequestKind::Cut => answer(alloc, desk, kind),
-        RequestKind::Serve(_) => answer(alloc, desk, kind),
+        RequestKind::Serve(PathRequest::Due(day)) => report_due(alloc, keeper, desk, *day),
+        RequestKind::Serve(PathRequest::Overdue(day, days)) => {
+            report_overdue(alloc, keeper, desk, *day, *days)
+        }
+        RequestKind::Serve(PathRequest::Resume) => answer(alloc, desk, kind),
+        RequestKind::Serve(PathRequest::Record(_)) => answer(alloc, desk, kind),
+        RequestKind::Serve(PathRequest::Content(_)) => answer(alloc, desk, kind),
+        RequestKind::Serve(PathRequest::Certificate(_)) => answer(alloc, desk, kind),
     }
 }
 

@@ -14,6 +14,7 @@ mod denials;
 mod exchange;
 mod gate;
 pub mod laws;
+mod lists;
 mod readings;
 
 pub use answers::answer_for;

@@ -2,12 +2,12 @@
 ghost use Rattle.std.specs.Prelude.{◌≡◌};
 ghost use Rattle.office_records.specs.Tree.{class_of};
 ghost use Rattle.std.specs.Option.{option_copied};
-ghost use Rattle.office_gate.specs.Paths.{is_in_transit, path_denial, record_denial, request_denial, whole_denial};
+ghost use Rattle.office_gate.specs.Paths.{is_in_transit, lists_denial, path_denial, record_denial, request_denial, whole_denial};
 ghost use Rattle.office_gate.specs.Visitors.{visitor_of};
 ghost use Rattle.office_http.specs.Receiving.{request_of_kind};
 ghost use Rattle.office_rules.specs.State.{Office};
 
-use office_access::{Denial, Reading};
+use office_access::{Denial, Power, Reading};
 use office_guard::{Keeper, Snapshot};
 use office_http::{PathRequest, RequestKind};
 use office_machine::Machine;
@@ -62,6 +62,22 @@ fn deny_whole(keeper: &Keeper<'_>, reading: Reading) -> Option<Denial>
         .permit_reading(&keeper.name, reading, None, false)
 }
 
+/// Finds why the visitor may read no row of a list, if the visitor has no right to lists.
+fn deny_lists(keeper: &Keeper<'_>) -> Option<Denial>
+    ensures { result ≡ lists_denial (visitor_of keeper.now) }
+{
+    match keeper.policy.grants(&keeper.name) {
+        Some(grants) => {
+            if grants.may_at_all(Power::Read(Reading::Lists)) {
+                None
+            } else {
+                Some(Denial::Right)
+            }
+        }
+        None => Some(Denial::Name),
+    }
+}
+
 /// Finds why the visitor may not have what the path asks for, if the visitor may not.
 fn deny_path(keeper: &Keeper<'_>, machine: &Machine, request: PathRequest) -> Option<Denial>
     ensures { result ≡ path_denial (visitor_of keeper.now) machine.now request }
@@ -76,7 +92,7 @@ fn deny_path(keeper: &Keeper<'_>, machine: &Machine, request: PathRequest) -> Op
         PathRequest::Content(number) => {
             deny_record(keeper, machine.tree(), Reading::Contents, number)
         }
-        PathRequest::Due(_) | PathRequest::Overdue(_, _) => deny_whole(keeper, Reading::Lists),
+        PathRequest::Due(_) | PathRequest::Overdue(_, _) => deny_lists(keeper),
         PathRequest::Certificate(_) => deny_whole(keeper, Reading::Certificates),
     }
 }
