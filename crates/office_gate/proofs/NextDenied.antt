@@ -1,5 +1,5 @@
 -- The act that comes after those that are permitted is the one that is denied, if there is one.
-use Rattle.std.proofs.Common.{◌≡◌, ◌∷◌, ◌++◌, ◌∙◌, [], List, Option, Some, None, ap, cond, drop, length, refl, suc, subst, sym, true, false}
+use Rattle.std.proofs.Common.{◌≡◌, ◌∷◌, ◌++◌, ◌∙◌, [], List, Option, Some, None, ap, cond, drop, length, refl, suc, subst, sym}
 use Rattle.std.specs.Option.{is_none}
 use Rattle.std.specs.Prelude.{slice_get}
 use Rattle.office_access.specs.Permits.{denial_of}

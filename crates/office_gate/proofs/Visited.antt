@@ -1,30 +1,27 @@
 -- What is served for whoever is stated.
-use Rattle.std.proofs.Common.{◌≡◌, ◌∙◌, inl, inr, ap, refl, subst, sym, ℕ, ℤ, Bool, true, false, List, cond, map, Option, Some, None, Result, Ok, Err}
-use Rattle.std.specs.Prelude.{IfOk, IfSome, codes}
+use Rattle.std.proofs.Common.{◌≡◌, ◌∙◌, inl, inr, ap, refl, subst, sym, ℕ, ℤ, Bool, true, false, List, cond, map, Option, Some, None, Ok, Err}
+use Rattle.std.specs.Prelude.{IfSome, codes}
 use Rattle.httparse.specs.Grammar.{RequestHead}
 use Rattle.httparse.specs.Spans.{name_and_value}
 use Rattle.sqlite_trees.specs.declared.store.Store.{Ghosts}
 use Rattle.office_access.specs.Settings.{Settings}
 use Rattle.office_access.specs.declared.person.SignIn.{SignIn}
 use Rattle.office_base.specs.declared.memory.Memory.{Memory}
-use Rattle.office_base.specs.declared.output.Io.{Io}
 use Rattle.office_desk.specs.Desk.{DeskState}
-use Rattle.office_gate.specs.Exchanges.{AnswersStated, HasStatedReply, IsAnsweredStated, IsGivenStated, IsStatedNext, IsStatedReply, IsStatedServed, IsStatedToSend, LeavesStated}
+use Rattle.office_gate.specs.Exchanges.{AnswersStated, HasStatedReply, IsAnsweredStated, IsGivenStated, IsStatedNext, IsStatedReply, IsStatedServed, IsStatedToSend}
 use Rattle.office_gate.specs.Stated.{has_value, stated_day, stated_name, visitor_among, visitor_by, visitor_stated}
 use Rattle.office_gate.specs.Visitors.{Visitor}
 use Rattle.office_gate.specs.declared.gate.Gate.{Gate}
 use Rattle.office_http.specs.Fields.{Values, found_named}
-use Rattle.office_http.specs.Proxies.{IsProxied, IsProxiedFrom, ReceivesProxied, values_of}
+use Rattle.office_http.specs.Proxies.{IsProxied, IsProxiedFrom, values_of}
 use Rattle.office_http.specs.Receiving.{OfficeRequest, office_request, request_of_kind}
 use Rattle.office_http.specs.Replies.{Response, error_response, response}
-use Rattle.office_http.specs.Requests.{IsRequest, asks}
+use Rattle.office_http.specs.Requests.{asks}
 use Rattle.office_http.specs.declared.proxied_request.Proxied.TheVariants as proxied
 use Rattle.office_http.specs.declared.proxied_request.ProxiedRequest.{ProxiedRequest}
-use Rattle.office_http.specs.declared.reply.Reply.{Reply}
 use Rattle.office_http.specs.declared.request_error.RequestError.TheVariants as error
 use Rattle.office_rules.specs.State.{State}
 use Rattle.office_wire.specs.Answering.{IsGivenUnavailable, IsUnavailable}
-use Rattle.office_wire.specs.Serving.{ReportsUnavailable}
 use Rattle.office_wire.specs.declared.exchange.OutgoingReply.{OutgoingReply}
 use Rattle.office_wire.proofs.Calls.{answered}
 use Rattle.office_wire.proofs.Unavailable.{memory_unavailable}
