@@ -1,6 +1,11 @@
+pub mod Beginnings
 pub mod Cut
 pub mod Digits
+pub mod Ends
 pub mod Joined
+pub mod LinesCut
+pub mod Marked
 pub mod Marks
 pub mod Remarks
 pub mod Texts
+pub mod WordsCut

@@ -1,11 +1,11 @@
 -- The statements of a file, or the first line that is wrong. Source: docs/ACCESS.md, "The settings".
-use Rattle.std.specs.Prelude.{ℕ, ◌+◌, ◌==◌, ◌&&◌, ◌||◌, not, Bool, false, List, [], ◌∷◌, ◌++◌, length, Option, Some, None, Result, Ok, Err, if◌then◌else◌}
+use Rattle.std.specs.Prelude.{ℕ, ◌+◌, ◌==◌, ◌&&◌, ◌||◌, not, Bool, false, true, List, [], ◌∷◌, ◌++◌, length, Option, Some, None, Result, Ok, Err, if◌then◌else◌}
 use Rattle.std.specs.List.{find, join_with_byte, list_all, list_any, slice_split}
 use Rattle.std.specs.Option.{is_some}
 use Rattle.std.specs.Str.{bytes_eq}
 use Rattle.office_settings.specs.declared.wrong.Fault.{Fault}
 use Rattle.office_settings.specs.declared.wrong.Wrong.{Wrong}
-use Rattle.office_settings.specs.declared.wrong.Wrong.TheVariants.{Alike, NoRole, NoSite, NoZone, NotUtf8, SetTwice, SignedText, UnknownRole}
+use Rattle.office_settings.specs.declared.wrong.Wrong.TheVariants.{AfterEnd, Alike, BeginBelow, CutOff, EndAlone, NoRole, NoSite, NoZone, NotUtf8, SetTwice, SignedText, UnknownRole}
 use Rattle.office_settings.specs.Looks.{is_signable, look_in, text_in}
 use Rattle.office_settings.specs.Statements.{Line, statement_of}
 use Rattle.office_settings.specs.Statements as line
@@ -64,7 +64,22 @@ shown_by (line.has name roles classes) = name
 shown_by (line.signs name text) = join_with_byte 32 text
 shown_by _ = []
 
+-- the marks around a file
+abbrev pub is_begin : Line → Bool
+is_begin line.begins = true
+is_begin _ = false
+
+abbrev pub is_end : Line → Bool
+is_end line.ends = true
+is_end _ = false
+
 -- ---- a statement below others
+
+abbrev pub has_begin : List Entry → Bool
+has_begin entries = list_any (λ entry. is_begin entry.line) entries
+
+abbrev pub has_end : List Entry → Bool
+has_end entries = list_any (λ entry. is_end entry.line) entries
 
 abbrev pub same_setting : Option ℕ → Option ℕ → Bool
 same_setting (Some one) (Some other) = one == other
@@ -96,23 +111,39 @@ is_alike line entry =
 abbrev pub fault_at : ℕ → Wrong → Fault
 fault_at number wrong = record { line = Some number; wrong = wrong }
 
+-- a mark in a wrong place: `begin` has no statement above it, and `end` has `begin` above it
+abbrev pub misplaced : List Entry → Line → Option Wrong
+misplaced above line =
+    if is_begin line && not (length above == 0) then Some BeginBelow
+    else if is_end line && not (has_begin above) then Some EndAlone
+    else None
+
 -- the statements above a line and that of the line, which sets nothing again, and is about no name that looks like another
-abbrev pub with_statement : List Entry → ℕ → Line → Result (List Entry) Fault
-with_statement above number line =
+abbrev pub with_placed : List Entry → ℕ → Line → Result (List Entry) Fault
+with_placed above number line =
     if list_any (sets_again line) above then Err (fault_at number SetTwice)
     else if not (is_signable (shown_by line)) then Err (fault_at number SignedText)
     else if list_any (is_alike line) above then Err (fault_at number Alike)
     else Ok (above ++ record { number = number; line = line } ∷ [])
 
+abbrev pub unless_wrong : ℕ → Option Wrong → Result (List Entry) Fault → Result (List Entry) Fault
+unless_wrong number None next = next
+unless_wrong number (Some wrong) next = Err (fault_at number wrong)
+
+-- the same, of a line that is no mark in a wrong place
+abbrev pub with_statement : List Entry → ℕ → Line → Result (List Entry) Fault
+with_statement above number line = unless_wrong number (misplaced above line) (with_placed above number line)
+
 abbrev pub with_read : List Entry → ℕ → Result Line Wrong → Result (List Entry) Fault
 with_read above number (Err wrong) = Err (fault_at number wrong)
 with_read above number (Ok line) = with_statement above number line
 
--- a line with nothing but a remark has no statement
+-- a line with nothing but a remark has no statement; below `end` there is no other
 abbrev pub with_line : List Entry → ℕ → List ℕ → Result (List Entry) Fault
 with_line above number text =
     if not (is_some (text_in text)) then Err (fault_at number NotUtf8)
     else if length (tokens_in text) == 0 then Ok above
+    else if has_end above then Err (fault_at number AfterEnd)
     else with_read above number (statement_of (tokens_in text))
 
 -- ---- the lines of a file
@@ -155,10 +186,11 @@ abbrev pub unless : Option Entry → Wrong → Result (List Entry) Fault → Res
 unless None wrong next = next
 unless (Some entry) wrong next = Err (fault_at entry.number wrong)
 
--- there is a site and a time zone; each role that a name has is described; and each name that signs has roles
+-- what begins also ends; there is a site and a time zone; each role that a name has is described; and each name that signs has roles
 unfoldable pub whole : List Entry → Result (List Entry) Fault
 whole entries =
-    if not (has_setting entries 0) then Err (record { line = None; wrong = NoSite })
+    if has_begin entries && not (has_end entries) then Err (record { line = None; wrong = CutOff })
+    else if not (has_setting entries 0) then Err (record { line = None; wrong = NoSite })
     else if not (has_setting entries 1) then Err (record { line = None; wrong = NoZone })
     else unless (find (has_unknown_role entries) entries) UnknownRole
     (unless (find (signs_without_role entries) entries) NoRole (Ok entries))

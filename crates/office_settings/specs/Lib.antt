@@ -1,4 +1,5 @@
 pub mod Addresses
+pub mod Beginnings
 pub mod Files
 pub mod Forms
 pub mod Keywords

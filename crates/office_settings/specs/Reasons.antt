@@ -1,7 +1,7 @@
 -- The reasons in words. Source: own.
 use Rattle.std.specs.Prelude.{ℕ, List, codes}
 use Rattle.office_settings.specs.declared.wrong.Wrong.{Wrong}
-use Rattle.office_settings.specs.declared.wrong.Wrong.TheVariants.{Beginning, RoleLine, Role, Condition, NothingFollows, SentActs, Act, Thing, Class, NameLine, Name, Rule, Number, Limit, Keep, Journal, Site, Zone, NotUtf8, SetTwice, SignedText, Alike, UnknownRole, NoRole, NoSite, NoZone}
+use Rattle.office_settings.specs.declared.wrong.Wrong.TheVariants.{Beginning, RoleLine, Role, Condition, NothingFollows, SentActs, Act, Thing, Class, NameLine, Name, Rule, Number, Limit, Keep, Journal, Site, Zone, Mark, NotUtf8, BeginBelow, AfterEnd, EndAlone, SetTwice, SignedText, Alike, CutOff, UnknownRole, NoRole, NoSite, NoZone}
 
 -- the text of each reason
 abbrev pub reason : Wrong → List ℕ
@@ -23,10 +23,15 @@ reason Keep = codes "write: keep contents DAYS, or keep free MEGABYTES"
 reason Journal = codes "write: journal readings, or journal acts"
 reason Site = codes "a site is an address such as https://records.city.example, without a path"
 reason Zone = codes "a time zone is a word such as Europe/Berlin"
+reason Mark = codes "'begin' and 'end' have a line of their own"
 reason NotUtf8 = codes "this is no UTF-8"
+reason BeginBelow = codes "'begin' stands above all other statements"
+reason AfterEnd = codes "no statement stands below 'end'"
+reason EndAlone = codes "no 'begin' stands above this 'end'"
 reason SetTwice = codes "this is set already above"
 reason SignedText = codes "a text that is signed has at most 200 bytes, all of them printable"
 reason Alike = codes "this looks like another name of a line above, or like its text"
+reason CutOff = codes "the file is cut off: it has 'begin', but no 'end'"
 reason UnknownRole = codes "no line says what one of these roles may do"
 reason NoRole = codes "this name signs, but no line says which role it is"
 reason NoSite = codes "there is no line 'site'"

@@ -3,7 +3,7 @@ use Rattle.std.specs.Prelude.{ℕ, ◌+◌, ◌==◌, ◌&&◌, ◌||◌, not, n
 use Rattle.std.specs.List.{list_all}
 use Rattle.std.specs.Str.{bytes_eq}
 use Rattle.office_settings.specs.declared.wrong.Wrong.{Wrong}
-use Rattle.office_settings.specs.declared.wrong.Wrong.TheVariants.{Act, Beginning, Class, Condition, Journal, Keep, Limit, Name, NameLine, NothingFollows, Number, Role, RoleLine, Rule, SentActs, Site, Thing, Zone}
+use Rattle.office_settings.specs.declared.wrong.Wrong.TheVariants.{Act, Beginning, Class, Condition, Journal, Keep, Limit, Mark, Name, NameLine, NothingFollows, Number, Role, RoleLine, Rule, SentActs, Site, Thing, Zone}
 use Rattle.office_settings.specs.Addresses.{is_site, is_zone}
 use Rattle.office_settings.specs.Forms.{is_class, is_name, is_role}
 use Rattle.office_settings.specs.Keywords.{is_act, is_on_or_off, is_thing}
@@ -38,6 +38,9 @@ pub data Line : Type 0 where
   journals_readings : Bool → Line
   site : List ℕ → Line
   zone : List ℕ → Line
+  -- the marks around a file, by which a part of it is known
+  begins : Line
+  ends : Line
 
 -- the words before a mark and those after it; without the mark all come before it
 pub record Parts : Type 0 where
@@ -173,6 +176,9 @@ site_line [] = Err Site
 site_line (token ∷ []) = if is_site token then Ok (site token) else Err Site
 site_line (first ∷ second ∷ rest) = Err Site
 
+abbrev pub mark_line : Line → List (List ℕ) → Result Line Wrong
+mark_line mark rest = if length rest == 0 then Ok mark else Err Mark
+
 -- ---- the whole
 
 -- the statement that words are, or the first reason why they are none
@@ -187,4 +193,6 @@ statement_of (token ∷ rest) =
     else if bytes_eq token (codes "journal") then journal_line rest
     else if bytes_eq token (codes "site") then site_line rest
     else if bytes_eq token (codes "zone") then zone_line rest
+    else if bytes_eq token (codes "begin") then mark_line begins rest
+    else if bytes_eq token (codes "end") then mark_line ends rest
     else Err Beginning

@@ -28,6 +28,8 @@ line_of (it.FreeMegabytes n) = grammar.free_megabytes n
 line_of (it.JournalsReadings is) = grammar.journals_readings is
 line_of (it.Site token) = grammar.site token.now
 line_of (it.Zone token) = grammar.zone token.now
+line_of it.Begin = grammar.begins
+line_of it.End = grammar.ends
 
 abbrev pub read : Result Statement Wrong → Result grammar.Line Wrong
 read (Err wrong) = Err wrong

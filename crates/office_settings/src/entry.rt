@@ -3,7 +3,7 @@ ghost use Rattle.std.specs.Prelude.{◌≡◌, ◌&&◌, ◌||◌};
 ghost use Rattle.std.specs.List.{list_any};
 ghost use Rattle.std.specs.Option.{option_copied};
 ghost use Rattle.std.specs.Str.{bytes_eq};
-ghost use Rattle.office_settings.specs.Files.{differ, holder_of, owner_of, role_of, same_setting, same_text, setting_of, sets_again, shown_by, signer_of, with_statement};
+ghost use Rattle.office_settings.specs.Files.{differ, has_begin, has_end, holder_of, misplaced, owner_of, role_of, same_setting, same_text, setting_of, sets_again, shown_by, signer_of, with_placed, with_statement};
 ghost use Rattle.office_settings.specs.Looks.{look_in};
 ghost use Rattle.office_settings.specs.Readings.{IsAppended};
 ghost use Rattle.office_settings.specs.Views.{line_of};
@@ -161,15 +161,42 @@ fn is_look_above(above: &[Entry], owner: Option<&[u8]>, look: &str) -> bool
         .any(|entry| entry.has_look_of_another(owner, look))
 }
 
+/// Reports whether one of the entries is the mark above all other statements.
+pub(crate) fn has_begin(entries: &[Entry]) -> bool
+    ensures { result ≡ has_begin entries.now }
+{
+    entries.iter().any(|entry| entry.statement.is_begin())
+}
+
+/// Reports whether one of the entries is the mark below all other statements.
+pub(crate) fn has_end(entries: &[Entry]) -> bool
+    ensures { result ≡ has_end entries.now }
+{
+    entries.iter().any(|entry| entry.statement.is_end())
+}
+
+/// Finds why a mark below these entries is in a wrong place.
+fn misplaced(above: &[Entry], statement: &Statement) -> Option<Wrong>
+    ensures { result ≡ misplaced above.now (line_of statement.now) }
+{
+    if statement.is_begin() && !above.is_empty() {
+        return Some(Wrong::BeginBelow);
+    }
+    if statement.is_end() && !has_begin(above) {
+        return Some(Wrong::EndAlone);
+    }
+    None
+}
+
 /// Appends the statement of a line, which sets nothing again, and is about no name that looks like
 /// another. After an error the entries are of no use.
-pub(crate) fn push_statement<'a>(
+fn push_placed<'a>(
     alloc: Global,
     entries: &mut Vec<Entry<'a>>,
     number: usize,
     statement: Statement<'a>,
 ) -> Result<(), SettingsError>
-    ensures { IsAppended result entries.new.items (with_statement entries.old.items number (line_of statement.entry)) }
+    ensures { IsAppended result entries.new.items (with_placed entries.old.items number (line_of statement.entry)) }
 {
     if is_set_above(entries, &statement) {
         return Err(SettingsError::at(number, Wrong::SetTwice));
@@ -188,4 +215,20 @@ pub(crate) fn push_statement<'a>(
         look,
     })?;
     Ok(())
+}
+
+/// Appends the statement of a line, which is no mark in a wrong place either. After an error the
+/// entries are of no use.
+pub(crate) fn push_statement<'a>(
+    alloc: Global,
+    entries: &mut Vec<Entry<'a>>,
+    number: usize,
+    statement: Statement<'a>,
+) -> Result<(), SettingsError>
+    ensures { IsAppended result entries.new.items (with_statement entries.old.items number (line_of statement.entry)) }
+{
+    match misplaced(entries, &statement) {
+        Some(wrong) => Err(SettingsError::at(number, wrong)),
+        None => push_placed(alloc, entries, number, statement),
+    }
 }

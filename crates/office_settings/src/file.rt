@@ -5,7 +5,7 @@ ghost use Rattle.std.specs.Option.{option_copied};
 ghost use Rattle.office_settings.specs.Files.{entries_from, entries_of, has_setting, has_unknown_role, is_described, is_holder, signs_without_role, whole, with_line};
 ghost use Rattle.office_settings.specs.Readings.{IsAppended, IsRead};
 
-use crate::entry::push_statement;
+use crate::entry::{has_begin, has_end, push_statement};
 use crate::{Entry, SettingsError, SourceLine, Statement, Wrong};
 use std::alloc::Global;
 
@@ -24,6 +24,9 @@ fn push_line<'b, 'a>(
     let tokens = line.tokens();
     if tokens.is_empty() {
         return Ok(());
+    }
+    if has_end(entries) {
+        return Err(SettingsError::at(number, Wrong::AfterEnd));
     }
     match Statement::read(tokens) {
         Ok(statement) => push_statement(alloc, entries, number, statement),
@@ -113,6 +116,9 @@ fn signer_without_role<'b, 'a>(entries: &'b [Entry<'a>]) -> Option<&'b Entry<'a>
 fn check_whole(entries: &[Entry]) -> Result<(), SettingsError>
     ensures { IsAppended result entries.now (whole entries.now) }
 {
+    if has_begin(entries) && !has_end(entries) {
+        return Err(SettingsError::of_file(Wrong::CutOff));
+    }
     if !has_setting(entries, 0) {
         return Err(SettingsError::of_file(Wrong::NoSite));
     }
@@ -129,8 +135,8 @@ fn check_whole(entries: &[Entry]) -> Result<(), SettingsError>
 }
 
 /// Reads the lines of a file as settings. The error is the first line that is wrong, or else what
-/// the whole lacks: the site, the time zone, a role that a name has, or the roles of a name that
-/// signs.
+/// the whole lacks: the `end` of what has a `begin`, the site, the time zone, a role that a name
+/// has, or the roles of a name that signs.
 #[tactic(auto, unfolding(crate::specs::Files::entries_of))]
 pub fn read_entries<'b, 'a>(
     alloc: Global,

@@ -4,6 +4,7 @@
 //! lines, and these into words; [`read_entries`] reads the lines as statements: what a role may do
 //! or read, which roles a name has and what it signs, a rule of four eyes, and how the site is
 //! served. A file that is wrong is refused for its first wrong line, with a reason ([`Fault`]).
+//! `begin` above all statements and `end` below them are marks: no part of a file with both is read.
 //!
 //! No two names, and no two texts that names sign, look alike ([`look_of`]). Outside are: whether a
 //! time zone is known, and whether a text has letters of two scripts.
@@ -15,6 +16,7 @@ mod error;
 mod file;
 mod forms;
 mod keywords;
+pub mod laws;
 mod looks;
 mod numbers;
 mod parts;

@@ -1,7 +1,7 @@
 //! A statement of the settings.
 ghost use Rattle.std.specs.Prelude.{◌≡◌, ◌∷◌, map};
-ghost use Rattle.office_settings.specs.Statements.{journal_line, keep_line, limit_line, rule_line, site_line, statement_of, zone_line};
-ghost use Rattle.office_settings.specs.Views.{read};
+ghost use Rattle.office_settings.specs.Statements.{journal_line, keep_line, limit_line, mark_line, rule_line, site_line, statement_of, zone_line};
+ghost use Rattle.office_settings.specs.Views.{line_of, read};
 
 use crate::Wrong;
 use crate::addresses::{is_site, is_zone};
@@ -68,6 +68,10 @@ pub enum Statement<'a> {
     Site(&'a [u8]),
     /// The time zone of the office.
     Zone(&'a [u8]),
+    /// The mark above all other statements.
+    Begin,
+    /// The mark below all other statements.
+    End,
 }
 
 /// Reads what follows the word `rule`: its first word, and the rest.
@@ -225,6 +229,16 @@ fn site_line<'a>(tokens: &'a [&'a [u8]]) -> Result<Statement<'a>, Wrong>
     }
 }
 
+/// Reads what follows the word of a mark: nothing.
+fn mark_line<'a>(mark: Statement<'a>, rest: &[&[u8]]) -> Result<Statement<'a>, Wrong>
+    ensures { read result ≡ mark_line (line_of mark.entry) (map (λ w. w.now) rest.now) }
+{
+    if !rest.is_empty() {
+        return Err(Wrong::Mark);
+    }
+    Ok(mark)
+}
+
 /// Reads the first word of a line, and the rest.
 #[tactic(auto, unfolding(crate::specs::Statements::statement_of))]
 fn kind_line<'a>(token: &[u8], rest: &'a [&'a [u8]]) -> Result<Statement<'a>, Wrong>
@@ -246,6 +260,10 @@ fn kind_line<'a>(token: &[u8], rest: &'a [&'a [u8]]) -> Result<Statement<'a>, Wr
         site_line(rest)
     } else if is(token, "zone") {
         zone_line(rest)
+    } else if is(token, "begin") {
+        mark_line(Statement::Begin, rest)
+    } else if is(token, "end") {
+        mark_line(Statement::End, rest)
     } else {
         Err(Wrong::Beginning)
     }

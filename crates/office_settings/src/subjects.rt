@@ -2,7 +2,7 @@
 ghost use Rattle.std.specs.Prelude.{◌≡◌, ◌∷◌, ◌++◌, IfOk, OnOk, map};
 ghost use Rattle.std.specs.List.{flat_map, join_with_byte};
 ghost use Rattle.std.specs.Option.{option_copied};
-ghost use Rattle.office_settings.specs.Files.{holder_of, owner_of, role_of, roles_of, setting_of, shown_by, signer_of};
+ghost use Rattle.office_settings.specs.Files.{holder_of, is_begin, is_end, owner_of, role_of, roles_of, setting_of, shown_by, signer_of};
 ghost use Rattle.office_settings.specs.Views.{line_of};
 
 use crate::Statement;
@@ -48,6 +48,20 @@ fn joined(alloc: Global, tokens: &[&[u8]]) -> Result<Vec<u8>, AllocError>
 }
 
 impl<'a> Statement<'a> {
+    /// Reports whether this is the mark above all other statements.
+    pub(crate) fn is_begin(&self) -> bool
+        ensures { result ≡ is_begin (line_of self.now) }
+    {
+        matches!(self, Statement::Begin)
+    }
+
+    /// Reports whether this is the mark below all other statements.
+    pub(crate) fn is_end(&self) -> bool
+        ensures { result ≡ is_end (line_of self.now) }
+    {
+        matches!(self, Statement::End)
+    }
+
     /// Returns the number of the setting, if a file makes that setting once.
     pub(crate) fn setting(&self) -> Option<u8>
         ensures { result ≡ setting_of (line_of self.now) }

@@ -41,14 +41,24 @@ pub enum Wrong {
     Site,
     /// The time zone has not the form of one.
     Zone,
+    /// A line `begin` or `end` has more words.
+    Mark,
     /// The line is no UTF-8.
     NotUtf8,
+    /// A statement stands above `begin`.
+    BeginBelow,
+    /// A statement stands below `end`.
+    AfterEnd,
+    /// No `begin` stands above `end`.
+    EndAlone,
     /// A line above sets this already.
     SetTwice,
     /// A text that is signed is longer than 200 bytes, or has a character that no page shows.
     SignedText,
     /// The name, or its text, looks like another name of a line above, or like the text of one.
     Alike,
+    /// The file has `begin`, but no `end`.
+    CutOff,
     /// A name has a role that no line describes.
     UnknownRole,
     /// A name signs that has no role.
@@ -93,11 +103,16 @@ impl Wrong {
             Wrong::Site =>
                 "a site is an address such as https://records.city.example, without a path",
             Wrong::Zone => "a time zone is a word such as Europe/Berlin",
+            Wrong::Mark => "'begin' and 'end' have a line of their own",
             Wrong::NotUtf8 => "this is no UTF-8",
+            Wrong::BeginBelow => "'begin' stands above all other statements",
+            Wrong::AfterEnd => "no statement stands below 'end'",
+            Wrong::EndAlone => "no 'begin' stands above this 'end'",
             Wrong::SetTwice => "this is set already above",
             Wrong::SignedText =>
                 "a text that is signed has at most 200 bytes, all of them printable",
             Wrong::Alike => "this looks like another name of a line above, or like its text",
+            Wrong::CutOff => "the file is cut off: it has 'begin', but no 'end'",
             Wrong::UnknownRole => "no line says what one of these roles may do",
             Wrong::NoRole => "this name signs, but no line says which role it is",
             Wrong::NoSite => "there is no line 'site'",
