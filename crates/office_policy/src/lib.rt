@@ -8,6 +8,7 @@
 #![tactic(auto)]
 
 mod classes;
+pub mod laws;
 mod limits;
 mod names;
 mod others;
