@@ -1,5 +1,5 @@
 -- Acts that a keeper lets through, as deeds.
-use Rattle.std.proofs.Common.{◌≡◌, ℕ, ℤ, suc, Bool, true, false, cond, ◌&&◌, List, [], ◌∷◌, ◌++◌, take, Option, Some, None, refl, sym, ap, subst, ◌∙◌}
+use Rattle.std.proofs.Common.{◌≡◌, ℕ, ℤ, zero, suc, Bool, true, false, cond, ◌&&◌, List, [], ◌∷◌, ◌++◌, Option, Some, None, refl, ap, ◌∙◌}
 use Rattle.std.specs.Option.{is_none}
 use Rattle.std.specs.Prelude.{slice_get}
 use Rattle.office_access.specs.Deeds.{AllPermitted, Deed, acts_of}
@@ -8,7 +8,7 @@ use Rattle.office_access.specs.Settings.{Settings}
 use Rattle.office_access.specs.declared.denial.Denial.{Denial}
 use Rattle.office_access.specs.declared.person.SignIn.{SignIn}
 use Rattle.office_access.proofs.Exact.{permits_exactly}
-use Rattle.office_desk.specs.Guarded.{are_permitted, permitted_acts}
+use Rattle.office_desk.specs.Guarded.{are_permitted}
 use Rattle.office_guard.specs.Permitted.{IsDenied, deeds_of, is_permitted, permitted_to}
 use Rattle.office_rules.specs.Acts.{after, step}
 use Rattle.office_rules.specs.State.{Office, State}
@@ -26,6 +26,12 @@ not_none (Some d) h e = absurd cc
 pub joined : (s : State) (deeds more : List Deed) → AllPermitted s deeds → AllPermitted (after s (acts_of deeds)) more → AllPermitted s (deeds ++ more)
 joined s [] more all rest = rest
 joined s (d ∷ deeds) more all rest = (all.0, joined (step s d.act).1 deeds more all.1 rest)
+
+-- a deed with its act
+pub deed_at : (deeds : List Deed) (i : ℕ) (a : Act) → slice_get (acts_of deeds) i ≡ Some a → (d : Deed) × (slice_get deeds i ≡ Some d) × (d.act ≡ a)
+deed_at [] i a is = absurd cc
+deed_at (d ∷ deeds) zero a is = (d, refl, cc)
+deed_at (d ∷ deeds) (suc i) a is = deed_at deeds i a is
 
 module _ (settings : Settings) (today : ℤ) (name : SignIn) where
   may : (s : Office) (a : Act) → is_permitted settings today name s a ≡ true → Permits settings s today name a

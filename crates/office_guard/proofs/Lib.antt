@@ -1,2 +1,7 @@
+pub mod ByRights
 pub mod Deeds
+pub mod Openers
+pub mod SignedByRight
 pub mod SignedLines
+pub mod StandIns
+pub mod StepActs

@@ -1,2 +1,3 @@
+pub mod ByRights
 pub mod Permitted
 pub mod SignedLines
