@@ -1,10 +1,17 @@
+pub mod Bytes
 pub mod Digests
 pub mod Fixed
 pub mod Joined
+pub mod Judged
+pub mod Lexed
 pub mod Nested
 pub mod Noted
+pub mod NumberBytes
 pub mod Parts
 pub mod Put
+pub mod Quoted
+pub mod ReadBack
+pub mod Room
 pub mod Scanned
 pub mod ShownText
 pub mod Split

@@ -1,12 +1,10 @@
 -- The lines that are written are those of a journal.
-use Rattle.std.proofs.Common.{◌≡◌, ◌∙◌, ℕ, zero, suc, ◌+◌, ◌-◌, ◌/◌, ◌%◌, ◌^◌, ◌<◌, ◌≤◌, ◌==◌, ◌&&◌, cond, Bool, true, false, List, [], ◌∷◌, ◌++◌, length, take, Some, Result, Ok, Err, refl, sym, ap, subst, arith, append_assoc, append-nil, length-append}
-use Rattle.std.specs.Prelude.{codes, slice_index}
+use Rattle.std.proofs.Common.{◌≡◌, ◌∙◌, ℕ, zero, suc, ◌+◌, ◌-◌, ◌^◌, ◌<◌, ◌≤◌, ◌==◌, cond, Bool, true, false, List, [], ◌∷◌, ◌++◌, length, take, Some, Result, Ok, Err, refl, sym, ap, subst, arith, append_assoc, append-nil, length-append}
+use Rattle.std.specs.Prelude.{codes}
 use Rattle.std.specs.Fmt.{decimal}
-use Rattle.std.specs.List.{AllByRecursion}
-use Rattle.std.proofs.lemmas.Bool.{and_parts}
 use Rattle.std.proofs.lemmas.List.Elements.{recursion_from_All}
 use Rattle.std.proofs.Math.Seq.{take-append_seam}
-use Rattle.hex.specs.Hex.{encode_lower, encode_with, lower_digits}
+use Rattle.hex.specs.Hex.{encode_lower}
 use Rattle.json.specs.Print.{print}
 use Rattle.json.specs.Token.{end_object}
 use Rattle.json.proofs.Printed.Decimals.{IsNumber-decimal}
@@ -20,50 +18,14 @@ use Rattle.office_journal.specs.Journals.{begun, checked, checked_from, checked_
 use Rattle.office_journal.specs.Lines.{head_after}
 use Rattle.office_journal.specs.Members.{AreWritable, Field, fields_tokens, members_text}
 use Rattle.office_journal.specs.Noting.{AllWritable, GoOn, last_of, left_by_stop, line_of, with_feed, written}
+use Rattle.office_journal.proofs.Bytes.{hex_pass}
 use Rattle.office_journal.proofs.Digests.{IsDigest-sha256}
 use Rattle.office_journal.proofs.Parts.{rest_after-append}
-use Rattle.office_journal.proofs.Scanned.{NoFeed, off, good, good_closes, good_feeds, out, within, is_inert, all_inert, inerts}
+use Rattle.office_journal.proofs.Scanned.{NoFeed, off, good, good_closes, good_feeds, out, within, is_inert, inerts}
 use Rattle.office_journal.proofs.ShownText.{shown_good}
 use Rattle.office_journal.proofs.Tokens.{fields_text, number_text}
 
 -- ---- one line is whole
-
-all_below : (ℕ → Bool) → ℕ → Bool
-all_below p zero = true
-all_below p (suc n) = p n && all_below p n
-
-below_by : (p : ℕ → Bool) (n i : ℕ) (e : Bool) → (i == n) ≡ e → i < suc n → p n ≡ true → (i < n → p i ≡ true) → p i ≡ true
-below_by p n i true is l here later = ap p (equal i n is) ∙ here
-  where
-    equal : (x y : ℕ) → (x == y) ≡ true → x ≡ y
-    equal x y h = grind arith
-below_by p n i false is l here later = later (smaller i n is l)
-  where
-    smaller : (x y : ℕ) → (x == y) ≡ false → x < suc y → x < y
-    smaller x y h k = grind arith
-
-below : (p : ℕ → Bool) (n : ℕ) → all_below p n ≡ true → (i : ℕ) → i < n → p i ≡ true
-unfolding all_below
-below p zero h i l = absurd (omega (arith, l))
-below p (suc n) h i l = let parts = and_parts (p n) (all_below p n) h in below_by p n i (i == n) refl l parts.0 (below p n parts.1 i)
-
--- a hexadecimal digit means nothing in a text
-digit : (k : ℕ) → k < 16 → is_inert (slice_index lower_digits k) ≡ true
-unfolding all_below
-digit k h = below (λ i. is_inert (slice_index lower_digits i)) 16 refl k h
-
-both : (x y : Bool) → x ≡ true → y ≡ true → (x && y) ≡ true
-both true y e f = f
-both false y e f = absurd cc
-
-digits : (digest : List ℕ) → AllByRecursion (λ b. b < 256) digest → all_inert (encode_lower digest) ≡ true
-unfolding encode_with
-digits [] h = refl
-digits (b ∷ rest) h =
-    let small : b < 256 = h.0 in
-    let low = slice_index lower_digits (b % 16) in
-    both (is_inert (slice_index lower_digits (b / 16))) (is_inert low && all_inert (encode_lower rest)) (digit (b / 16) (omega (arith, small)))
-    (both (is_inert low) (all_inert (encode_lower rest)) (digit (b % 16) (omega arith)) (digits rest h.1))
 
 regroup : (a h m n k t : List ℕ) → ((((a ++ h) ++ m) ++ n) ++ k) ++ t ≡ a ++ (h ++ (m ++ (n ++ (k ++ t))))
 regroup a h m n k t = simp append_assoc
@@ -86,7 +48,7 @@ good_line head fields digest room w =
     let text = members_text fields in
     let number : List ℕ = decimal (head.line + 1) in
     begins (encode_lower head.digest ++ (codes "\",\"line\":" ++ (number ++ (codes "," ++ text))))
-    ∙ inerts 0 true (encode_lower head.digest) (codes "\",\"line\":" ++ (number ++ (codes "," ++ text))) (digits head.digest (recursion_from_All _ _ digest.1))
+    ∙ inerts 0 true (encode_lower head.digest) (codes "\",\"line\":" ++ (number ++ (codes "," ++ text))) (hex_pass is_inert refl head.digest (recursion_from_All _ _ digest.1))
     ∙ middle (number ++ (codes "," ++ text))
     ∙ number_text 0 number (codes "," ++ text) (IsNumber-decimal (head.line + 1) (omega (arith, room)))
     ∙ inerts 0 false (codes ",") text refl

@@ -1,5 +1,6 @@
 -- Braces and quotes over the text of a line, in which no byte is a line feed.
 use Rattle.std.proofs.Common.{◌≡◌, ◌≢◌, ◌∙◌, ℕ, suc, ◌+◌, ◌-◌, ◌<◌, ◌≤◌, ◌==◌, ◌&&◌, not, cond, Bool, true, false, List, [], ◌∷◌, ◌++◌, length, refl, ap, arith}
+use Rattle.office_journal.proofs.Bytes.{all_pass}
 use Rattle.office_journal.specs.declared.nesting.Nesting.{Nesting}
 use Rattle.office_journal.specs.Journals.{after_byte, closes}
 
@@ -107,8 +108,7 @@ inert d b q e rest h =
     step (at (suc d) q e) (at (suc d) q false) b rest i.feed (after_inert d b q e i) (deep d)
 
 abbrev pub all_inert : List ℕ → Bool
-all_inert [] = true
-all_inert (b ∷ rest) = is_inert b && all_inert rest
+all_inert = all_pass is_inert
 
 pub inerts : (d : ℕ) (q : Bool) (bytes rest : List ℕ) → all_inert bytes ≡ true → good (at (suc d) q false) (bytes ++ rest) ≡ good (at (suc d) q false) rest
 inerts d q [] rest h = refl

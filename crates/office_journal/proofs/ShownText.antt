@@ -118,9 +118,9 @@ ranged : (low high c : ℕ) → is_from_to low high c ≡ true → (low ≤ c) �
 ranged low high c h = let parts = and_parts _ _ h in (leb-true low c parts.0, leb-true c high parts.1)
 
 abbrev Fits : ℕ → Type 0
-Fits c = (126 < c) × (c < 65536)
+Fits c = (126 < c) × (c < 55296)
 
-fits : (low high c : ℕ) → 126 < low → high < 65536 → is_from_to low high c ≡ true → Fits c
+fits : (low high c : ℕ) → 126 < low → high < 55296 → is_from_to low high c ≡ true → Fits c
 fits low high c l h e = let r = ranged low high c e in let from = r.0 in let to = r.1 in (omega (arith, l, from), omega (arith, h, to))
 
 fits_one : (x y : Bool) (c : ℕ) → (x ≡ true → Fits c) → (y ≡ true → Fits c) → (x || y) ≡ true → Fits c
@@ -144,12 +144,15 @@ hiding_fits c =
 
 -- ---- all characters
 
+below : (c : ℕ) → c < 55296 → c < 65536
+below c h = omega (arith, h)
+
 by_char : (c : ℕ) (h : Bool) (xs ys : List ℕ) → is_hiding c ≡ h → Alike xs ys → Alike (cond h (escaped c) (encode c) ++ xs) (encode c ++ ys)
 by_char c false xs ys e alike = alike_append (encode c) xs ys alike
 by_char c true xs ys e alike =
     let fit = hiding_fits c e in (
       λ d q s.
-          escaped_any d c q s xs fit.1 ∙ alike.0 d q false ∙ sym (inerts_any d q s (encode c) ys (encode_some c) (high_encode c fit.0)),
+          escaped_any d c q s xs (below c fit.1) ∙ alike.0 d q false ∙ sym (inerts_any d q s (encode c) ys (encode_some c) (high_encode c fit.0)),
       filled 92 (117 ∷ digit_char (c / 4096) ∷ digit_char (c / 256 % 16) ∷ digit_char (c / 16 % 16) ∷ digit_char (c % 16) ∷ xs)
           ∙ sym (some_append (encode c) ys (encode_some c)),
     )

@@ -1,16 +1,15 @@
 -- The text of tokens is closed by its last brace, and has no line feed.
-use Rattle.std.proofs.Common.{◌≡◌, ◌≢◌, ◌∙◌, ◌⊎◌, inl, inr, ℕ, suc, ◌+◌, ◌/◌, ◌%◌, ◌<◌, ◌≤◌, ◌==◌, ◌&&◌, ◌||◌, nat_lt, cond, Bool, true, false, List, [], ◌∷◌, ◌++◌, drop, Option, Some, None, option_and_then, refl, sym, ap, arith, append_assoc}
-use Rattle.std.specs.List.{prefix_len}
-use Rattle.std.specs.Char.{digit_char, is_ascii_digit}
-use Rattle.std.proofs.lemmas.Bool.{eqb-true, leb-true, ltb-true, ltb-false, and_parts, or_cases}
+use Rattle.std.proofs.Common.{◌≡◌, ◌≢◌, ◌∙◌, ◌⊎◌, inl, inr, ℕ, suc, ◌+◌, ◌/◌, ◌%◌, ◌<◌, ◌≤◌, ◌==◌, ◌&&◌, ◌||◌, nat_le, nat_lt, cond, Bool, true, false, List, [], ◌∷◌, ◌++◌, refl, sym, ap, arith, append_assoc}
+use Rattle.std.specs.Char.{digit_char}
+use Rattle.std.proofs.lemmas.Bool.{eqb-true, leb-true, ltb-true, ltb-false, and_from, and_parts, or_cases}
 use Rattle.json.specs.Json.{Json, null, boolean, number, string, array, object, Items, no_items, item, Members, no_members, member}
 use Rattle.json.specs.Token.{Token}
 use Rattle.json.specs.Token as token
 use Rattle.json.specs.Tree.{json_tokens, items_tokens, members_tokens, HasNumbers, ItemsHaveNumbers, MembersHaveNumbers}
 use Rattle.json.specs.Print.{escape_letter, escape_byte, escape, quoted, token_text, begins, ends, print_from, IsNumber}
-use Rattle.json.specs.Word.{head, after_digits, after_minus, after_sign, after_whole, after_fraction, after_exponent, after_number}
 use Rattle.office_journal.specs.Members.{Field, HaveNumbers, fields_tokens}
-use Rattle.office_journal.proofs.Scanned.{off, good, out, within, is_inert, inert, inerts, inert_low, inert_letter, begins_text, ends_text, in_text, behind, opens, shuts, shuts_last}
+use Rattle.office_journal.proofs.NumberBytes.{all_of_number, is_of_number, number_bytes}
+use Rattle.office_journal.proofs.Scanned.{off, good, out, within, is_inert, all_inert, inert, inerts, inert_if, inert_low, inert_letter, begins_text, ends_text, in_text, behind, opens, shuts, shuts_last}
 
 -- ---- a text in quotes
 
@@ -78,84 +77,25 @@ quoted_text d s rest =
 
 -- ---- a number
 
--- as much of a text as lies before its end is passed
-abbrev Skips : ℕ → List ℕ → List ℕ → Type 0
-Skips d t r = (rest : List ℕ) → good (out d) (t ++ rest) ≡ good (out d) (r ++ rest)
-
-abbrev Leaves : ℕ → List ℕ → Option (List ℕ) → Type 0
-Leaves d t None = Unit {0}
-Leaves d t (Some r) = Skips d t r
-
-further : (d : ℕ) (t u : List ℕ) (o : Option (List ℕ)) → Skips d t u → Leaves d u o → Leaves d t o
-further d t u None e h = tt
-further d t u (Some r) e h = λ rest. e rest ∙ h rest
-
-either : (d : ℕ) (t : List ℕ) (b : Bool) (x y : Option (List ℕ)) → (b ≡ true → Leaves d t x) → Leaves d t y → Leaves d t (cond b x y)
-either d t true x y p q = p refl
-either d t false x y p q = q
-
-one : (d c : ℕ) (t : List ℕ) → is_inert c ≡ true → (head t == c) ≡ true → Skips d t (drop 1 t)
-one d c [] i e = λ rest. refl
-one d c (x ∷ xs) i e = λ rest. inert d x false false (xs ++ rest) (ap is_inert (eqb-true x c e) ∙ i)
-
-either_one : (d a b : ℕ) (t : List ℕ) → is_inert a ≡ true → is_inert b ≡ true → (head t == a) ≡ true ⊎ (head t == b) ≡ true → Skips d t (drop 1 t)
-either_one d a b t p q (inl e) = one d a t p e
-either_one d a b t p q (inr e) = one d b t q e
-
-optional : (d : ℕ) (t : List ℕ) (b : Bool) → (b ≡ true → Skips d t (drop 1 t)) → Skips d t (cond b (drop 1 t) t)
-optional d t true f = f refl
-optional d t false f = λ rest. refl
-
-digits_at : (d x : ℕ) (xs : List ℕ) (n : ℕ) (b : Bool) → (b ≡ true → is_inert x ≡ true) → Skips d xs (drop n xs) → Skips d (x ∷ xs) (drop (cond b (1 + n) 0) (x ∷ xs))
-digits_at d x xs n false i later = λ rest. refl
-digits_at d x xs n true i later = λ rest.
-    let more : 1 + n ≡ suc n = omega arith in
-    inert d x false false (xs ++ rest) (i refl) ∙ later rest ∙ ap (λ k. good (out d) (drop k (x ∷ xs) ++ rest)) (sym more)
-
-digit_run : (d : ℕ) (t : List ℕ) → Skips d t (drop (prefix_len is_ascii_digit t) t)
-digit_run d [] = λ rest. refl
-digit_run d (x ∷ xs) = digits_at d x xs (prefix_len is_ascii_digit xs) (is_ascii_digit x) (digit x) (digit_run d xs)
+inert_byte : (b : ℕ) → is_of_number b ≡ true → is_inert b ≡ true
+inert_byte b h = by (or_cases (nat_le 43 b && nat_le b 69) (b == 101) h)
   where
-    digit : (x : ℕ) → is_ascii_digit x ≡ true → is_inert x ≡ true
-    digit x h = let both = and_parts _ _ h in inert_low x (leb-true 48 x both.0) (omega (arith, leb-true x 57 both.1))
+    by : (nat_le 43 b && nat_le b 69) ≡ true ⊎ (b == 101) ≡ true → is_inert b ≡ true
+    by (inl range) =
+        let parts = and_parts (nat_le 43 b) (nat_le b 69) range in
+        let low : 43 ≤ b = leb-true 43 b parts.0 in
+        let high : b ≤ 69 = leb-true b 69 parts.1 in
+        inert_if b (λ e. omega (arith, e, low)) (λ e. omega (arith, e, low)) (λ e. omega (arith, e, high)) (λ e. omega (arith, e, high)) (λ e. omega (arith, e, high))
+    by (inr e) = ap is_inert (eqb-true b 101 e)
 
-digits : (d : ℕ) (t : List ℕ) → Leaves d t (after_digits t)
-digits d t = either d t (prefix_len is_ascii_digit t == 0) None (Some (drop (prefix_len is_ascii_digit t) t)) (λ e. tt) (digit_run d t)
-
-whole : (d : ℕ) (t : List ℕ) → Leaves d t (after_whole t)
-whole d t = either d t (head t == 48) (Some (drop 1 t)) (after_digits t) (one d 48 t refl) (digits d t)
-
-fraction : (d : ℕ) (t : List ℕ) → Leaves d t (after_fraction t)
-fraction d t =
-    either d t (head t == 46) (after_digits (drop 1 t)) (Some t)
-    (λ e. further d t (drop 1 t) (after_digits (drop 1 t)) (one d 46 t refl e) (digits d (drop 1 t))) (λ rest. refl)
-
-exponent : (d : ℕ) (t : List ℕ) → Leaves d t (after_exponent t)
-exponent d t =
-    let u = drop 1 t in
-    either d t ((head t == 101) || (head t == 69)) (after_digits (after_sign u)) (Some t)
-    (λ e. further d t u (after_digits (after_sign u)) (either_one d 101 69 t refl refl (or_cases (head t == 101) (head t == 69) e))
-    (further d u (after_sign u) (after_digits (after_sign u))
-    (optional d u ((head u == 45) || (head u == 43)) (λ s. either_one d 45 43 u refl refl (or_cases (head u == 45) (head u == 43) s)))
-    (digits d (after_sign u)))) (λ rest. refl)
-
-then : (d : ℕ) (t : List ℕ) (f : List ℕ → Option (List ℕ)) → ((u : List ℕ) → Leaves d u (f u)) → (o : Option (List ℕ)) → Leaves d t o → Leaves d t (option_and_then f o)
-then d t f g None h = tt
-then d t f g (Some r) h = further d t r (f r) h (g r)
-
-leaves_number : (d : ℕ) (t : List ℕ) → Leaves d t (after_number t)
-unfolding after_number
-leaves_number d t =
-    then d t after_exponent (exponent d) (option_and_then after_fraction (after_whole (after_minus t)))
-    (then d t after_fraction (fraction d) (after_whole (after_minus t))
-    (further d t (after_minus t) (after_whole (after_minus t)) (optional d t (head t == 45) (one d 45 t refl)) (whole d (after_minus t))))
+inert_number : (s : List ℕ) → all_of_number s ≡ true → all_inert s ≡ true
+inert_number [] h = refl
+inert_number (b ∷ s) h =
+    let parts = and_parts (is_of_number b) (all_of_number s) h in
+    and_from (is_inert b) (all_inert s) (inert_byte b parts.0) (inert_number s parts.1)
 
 pub number_text : (d : ℕ) (s rest : List ℕ) → IsNumber s → good (out d) (s ++ rest) ≡ good (out d) rest
-number_text d s rest h = by (after_number s) (leaves_number d s) h
-  where
-    by : (o : Option (List ℕ)) → Leaves d s o → o ≡ Some [] → good (out d) (s ++ rest) ≡ good (out d) rest
-    by None l e = absurd cc
-    by (Some r) l e = let none : r ≡ [] = cc in l rest ∙ ap (λ x. good (out d) (x ++ rest)) none
+number_text d s rest h = inerts d false s rest (inert_number s (number_bytes s h))
 
 -- ---- tokens
 

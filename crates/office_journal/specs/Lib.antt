@@ -1,8 +1,11 @@
 pub mod Chain
 pub mod Journals
+pub mod Kinds
 pub mod Lines
 pub mod Members
 pub mod Noting
 pub mod Order
+pub mod ReadBack
 pub mod Reasons
 pub mod Shown
+pub mod Unread

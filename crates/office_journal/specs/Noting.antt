@@ -1,5 +1,5 @@
 -- The lines that a writer appends, one after another. Source: docs/ACCESS.md, "The journal".
-use Rattle.std.specs.Prelude.{◌≡◌, ℕ, ◌+◌, ◌-◌, ◌^◌, ◌<◌, ◌≤◌, Bool, true, false, List, [], ◌∷◌, ◌++◌, take, Option, Ok, ⊤}
+use Rattle.std.specs.Prelude.{◌≡◌, ℕ, ◌+◌, ◌-◌, ◌^◌, ◌<◌, ◌≤◌, Bool, true, false, List, [], ◌∷◌, ◌++◌, take, Option, Result, Ok, Err, ⊤}
 use Rattle.std.specs.Io.KnownBytes.{Appends}
 use Rattle.office_base.specs.Output.{AppendsSome}
 use Rattle.office_journal.specs.declared.head.Head.{Head}
@@ -8,7 +8,7 @@ use Rattle.office_journal.specs.declared.unwritten.Unwritten.{Unwritten}
 use Rattle.office_journal.specs.declared.unwritten.Unwritten.TheVariants.{Memory, NoJson, Full, Io, Poisoned}
 use Rattle.office_journal.specs.Journals.{checked}
 use Rattle.office_journal.specs.Lines.{head_after, opening}
-use Rattle.office_journal.specs.Members.{AreWritable, Field, members_text}
+use Rattle.office_journal.specs.Members.{AreShallow, AreWritable, Field, members_text}
 
 -- the line with these members after a head, without its line feed
 abbrev pub line_of : Head → List Field → List ℕ
@@ -70,3 +70,9 @@ IsUnwritten contents old new line Full = (new ≡ old) × (2 ^ 64 - 1 ≤ old.he
 IsUnwritten contents old new line Io =
     AppendsSome (contents old.out) (contents new.out) (with_feed line) × (new.head ≡ old.head) × (new.is_poisoned ≡ true)
 IsUnwritten contents old new line Poisoned = (new ≡ old) × (old.is_poisoned ≡ true)
+
+-- what came of the line with these members: it is the next line, in UTF-8, and can be read back; or it is not written
+abbrev pub IsNoted : {W : Type 0} → (W → Option (List ℕ)) → Journal W → Journal W → List Field → Result ℕ Unwritten → Type 0
+IsNoted contents old new fields (Ok line) =
+    (line ≡ old.head.line + 1) × AreWritable fields × AreShallow fields × IsWritten contents old new (line_of old.head fields)
+IsNoted contents old new fields (Err why) = IsUnwritten contents old new (line_of old.head fields) why

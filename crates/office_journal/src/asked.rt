@@ -1,12 +1,11 @@
 //! The line of a request that goes to the office now.
-ghost use Rattle.std.specs.Prelude.{◌≡◌, IfOk, OnOk};
-ghost use Rattle.office_journal.specs.Members.{AreRead, AreWritable, Puts, asked_fields, members_text};
+ghost use Rattle.std.specs.Prelude.{◌≡◌, Err, OnOk};
+ghost use Rattle.office_journal.specs.Members.{IsAskedRead, Puts, asked_fields};
 
-use crate::Body;
-use crate::members::{
-    new_members, put_body, put_digest, put_json_if_any, put_text, put_text_if_any, text_of,
-};
+use crate::contents::put_contents_if_any;
+use crate::members::{put_digest, put_json_if_any, put_sum_if_any, put_text_if_any, put_who};
 use crate::text_error::TextError;
+use crate::{Body, ContentsPlace, Preceding};
 use json::Writer;
 use std::alloc::Global;
 
@@ -30,36 +29,39 @@ pub struct Asked<'a> {
     pub acts: Option<&'a str>,
     /// The SHA-256 of the settings that allowed the request.
     pub settings: [u8; 32],
+    /// The places of acts whose day has passed, as a text of JSON, if there are any.
+    pub earlier: Option<&'a str>,
+    /// The files of a vault that the contents name, as a text of JSON, if there are any.
+    pub files: Option<&'a str>,
+    /// Where the contents are, if the acts have any.
+    pub contents: Option<ContentsPlace<'a>>,
+    pub preceding: Preceding<'a>,
 }
 
 impl Asked<'_> {
-    /// Writes the members of the line. Fails with `NoJson` if the acts are no JSON, or have a member
-    /// twice.
-    fn put(&self, alloc: Global, members: &mut Writer) -> Result<(), TextError>
+    /// Writes the members of the line. Fails with `NoJson` if a text that should be JSON is none,
+    /// has a member twice, or nests 128 deep.
+    pub(crate) fn put(&self, alloc: Global, members: &mut Writer) -> Result<(), TextError>
         ensures put { OnOk result (Puts members.old members.new (asked_fields self.now)) }
-        ensures read { OnOk result (AreRead self.now.acts) }
+        ensures read { OnOk result (IsAskedRead self.now) }
+        ensures unread { result ≡ Err TextError.NoJson → ¬ IsAskedRead self.now }
     {
-        put_text(members, "at", self.at)?;
-        put_text(members, "what", "asked")?;
-        put_text(members, "name", self.name)?;
-        put_text(members, "from", self.from)?;
-        put_text(members, "request", self.request)?;
+        put_who(
+            members,
+            self.at,
+            "asked",
+            (self.name, self.from),
+            self.request,
+        )?;
         put_text_if_any(members, "reason", self.reason)?;
         put_text_if_any(members, "key", self.key)?;
-        put_body(alloc, members, self.body)?;
+        put_sum_if_any(alloc, members, "body", self.body)?;
         put_json_if_any(alloc, members, "acts", self.acts)?;
         put_digest(alloc, members, "settings", self.settings)?;
+        put_json_if_any(alloc, members, "earlier", self.earlier)?;
+        put_json_if_any(alloc, members, "files", self.files)?;
+        put_contents_if_any(members, self.contents)?;
+        self.preceding.put(alloc, members)?;
         Ok(())
-    }
-
-    /// Returns the text of the line behind its number, which ends the object.
-    pub(crate) fn text(&self, alloc: Global) -> Result<Vec<u8>, TextError>
-        ensures text { IfOk result (λ text. text.items ≡ members_text (asked_fields self.now)) }
-        ensures writable { OnOk result (AreWritable (asked_fields self.now)) }
-        ensures read { OnOk result (AreRead self.now.acts) }
-    {
-        let mut members = new_members(alloc);
-        self.put(alloc, &mut members)?;
-        text_of(alloc, members)
     }
 }

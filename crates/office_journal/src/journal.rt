@@ -1,12 +1,14 @@
 //! A journal that is open: the writer of its lines.
-ghost use Rattle.std.specs.Prelude.{◌≡◌, ◌<◌, ◌+◌, ◌-◌, ◌^◌, ◌++◌, IfErr, IfOk, OnOk, false};
+ghost use Rattle.std.specs.Prelude.{◌≡◌, ◌≢◌, ◌<◌, ◌+◌, ◌-◌, ◌^◌, ◌++◌, ℕ, List, [], Err, IfErr, IfOk, OnOk, false};
 ghost use Rattle.office_journal.specs.Lines.{head_after, opening};
-ghost use Rattle.office_journal.specs.Members.{AreRead, AreWritable, answered_fields, asked_fields};
-ghost use Rattle.office_journal.specs.Noting.{IsUnwritten, IsWritten, line_of, with_feed};
+ghost use Rattle.office_journal.specs.Members.{AreShallow, Field, IsAnsweredRead, IsAskedRead, HaveNumbers, answered_fields, asked_fields, fields_tokens};
+ghost use Rattle.office_journal.specs.Noting.{IsNoted, IsUnwritten, IsWritten, with_feed};
+ghost use Rattle.office_journal.specs.Unread.{IsJudged};
 
-use crate::text_error::TextError;
+use crate::members::{new_members, text_of};
 use crate::{Answered, Asked, Head, Unwritten};
 use itoa::Buffer;
+use json::Writer;
 use office_base::{Io, write_out};
 use sha2::{Digest, Sha256};
 use std::alloc::{AllocError, Global};
@@ -97,6 +99,7 @@ impl<W: Write> Journal<W> {
         ensures number { IfOk result (λ line. line ≡ self.old.head.line + 1) }
         ensures unwritten { IfErr result (IsUnwritten W.contents self.old self.new
             (opening self.old.head.digest (self.old.head.line + 1) ++ text.now)) }
+        ensures texts { result ≢ Err Unwritten.NoJson }
     {
         if self.is_poisoned {
             return Err(Unwritten::Poisoned);
@@ -119,21 +122,27 @@ impl<W: Write> Journal<W> {
         }
     }
 
+    /// Writes the line of members that were put one after another.
+    pub(crate) fn note(&mut self, alloc: Global, members: Writer) -> Result<u64, Unwritten>
+        requires { members.before ≡ [] }
+        ensures noted { (fields : List Field) → members.tokens ≡ fields_tokens fields
+            → HaveNumbers fields → AreShallow fields
+            → IsNoted W.contents self.old self.new fields result }
+        ensures texts { result ≢ Err Unwritten.NoJson }
+    {
+        let text = text_of(alloc, members)?;
+        self.write(alloc, &text)
+    }
+
     /// Writes the line of a request, and returns its number.
     pub fn note_asked(&mut self, alloc: Global, asked: &Asked<'_>) -> Result<u64, Unwritten>
-        ensures written { OnOk result (IsWritten W.contents self.old self.new
-            (line_of self.old.head (asked_fields asked.now))) }
-        ensures members { OnOk result (AreWritable (asked_fields asked.now)
-            × AreRead asked.now.acts) }
-        ensures number { IfOk result (λ line. line ≡ self.old.head.line + 1) }
-        ensures unwritten { IfErr result (IsUnwritten W.contents self.old self.new
-            (line_of self.old.head (asked_fields asked.now))) }
+        ensures noted { IsNoted W.contents self.old self.new (asked_fields asked.now) result }
+        // Texts that cannot be read refuse it, and no others do.
+        ensures read { IsJudged (IsAskedRead asked.now) result }
     {
-        match asked.text(alloc) {
-            Ok(text) => self.write(alloc, &text),
-            Err(TextError::Memory) => Err(Unwritten::Memory),
-            Err(TextError::NoJson) => Err(Unwritten::NoJson),
-        }
+        let mut members = new_members(alloc);
+        asked.put(alloc, &mut members)?;
+        self.note(alloc, members)
     }
 
     /// Writes the line of an answer, and returns its number.
@@ -142,18 +151,13 @@ impl<W: Write> Journal<W> {
         alloc: Global,
         answered: &Answered<'_>,
     ) -> Result<u64, Unwritten>
-        ensures written { OnOk result (IsWritten W.contents self.old self.new
-            (line_of self.old.head (answered_fields answered.now))) }
-        ensures members { OnOk result (AreWritable (answered_fields answered.now)
-            × AreRead answered.now.answers × AreRead answered.now.answer) }
-        ensures number { IfOk result (λ line. line ≡ self.old.head.line + 1) }
-        ensures unwritten { IfErr result (IsUnwritten W.contents self.old self.new
-            (line_of self.old.head (answered_fields answered.now))) }
+        ensures noted { IsNoted W.contents self.old self.new (answered_fields answered.now)
+            result }
+        // Texts that cannot be read refuse it, and no others do.
+        ensures read { IsJudged (IsAnsweredRead answered.now) result }
     {
-        match answered.text(alloc) {
-            Ok(text) => self.write(alloc, &text),
-            Err(TextError::Memory) => Err(Unwritten::Memory),
-            Err(TextError::NoJson) => Err(Unwritten::NoJson),
-        }
+        let mut members = new_members(alloc);
+        answered.put(alloc, &mut members)?;
+        self.note(alloc, members)
     }
 }

@@ -1,13 +1,15 @@
 //! What the head of a journal fixes, as a law that is proved: the call does nothing.
-ghost use Rattle.std.specs.Prelude.{◌≡◌, ◌⊎◌, ◌<◌, ◌+◌, ◌-◌, ◌^◌, ◌++◌, ℕ, List, Ok, Some, length, map, take};
+ghost use Rattle.std.specs.Prelude.{◌≡◌, ◌⊎◌, ◌<◌, ◌+◌, ◌-◌, ◌^◌, ◌++◌, ◌∷◌, ℕ, List, Ok, Some, length, map, take};
+ghost use Rattle.json.specs.Json.{document};
 ghost use Rattle.office_journal.specs.Chain.{Collision, IsDigest, LeadTo};
 ghost use Rattle.office_journal.specs.declared.head.Head.{Head};
 ghost use Rattle.office_journal.specs.declared.check.Checked.{Checked};
 ghost use Rattle.office_journal.specs.declared.line.Line.{Line};
 ghost use Rattle.office_journal.specs.Journals.{checked};
 ghost use Rattle.office_journal.specs.Lines.{head_of, line_bytes, start};
-ghost use Rattle.office_journal.specs.Members.{AreWritable, Field};
+ghost use Rattle.office_journal.specs.Members.{AreShallow, AreWritable, Field};
 ghost use Rattle.office_journal.specs.Noting.{AllWritable, GoOn, last_of, left_by_stop, line_of};
+ghost use Rattle.office_journal.specs.ReadBack.{line_object};
 ghost use Rattle.office_journal.specs.Order.{Event, IsJournaled};
 
 /// Two journals that lead from one head to one other have the same lines, byte by byte, or two
@@ -42,6 +44,15 @@ pub fn law_of_a_stop()
           head = last_of head lines;
           torn = length (take count (line_of (last_of head lines) next));
         }) }
+{}
+
+/// A line that was written is read as the object that was noted: the digest of the line before, the
+/// number, and each member with its value, in order. So what is escaped for a terminal is no other
+/// text. The reader of the crate `json` reads 128 levels, of which the line is one.
+pub fn law_of_a_line_read_back()
+    ensures { (head : Head) (field : Field) (fields : List Field) → IsDigest head.digest
+        → head.line < 2 ^ 64 - 1 → AreWritable (field ∷ fields) → AreShallow (field ∷ fields)
+        → document (line_of head (field ∷ fields)) ≡ Some (line_object head (field ∷ fields)) }
 {}
 
 /// If each of two requests is journaled, one after the other is.

@@ -10,16 +10,21 @@
 //! it tells the truth, is outside. [`open_journal`] also returns where the whole lines end: what
 //! follows is a torn line, which a stop left. A journal of today's gate goes on in this form.
 //!
-//! A [`Journal`] writes lines behind a head: a request ([`Asked`]) before its first act, and its
-//! answer ([`Answered`]) before that goes out. Their texts of JSON are judged by the reader of the
-//! crate `json` and written anew, without white space. A line that was not written whole poisons the
-//! journal: it must be opened again.
+//! A [`Journal`] writes lines behind a head: a request ([`Asked`]) before its first act, its answer
+//! ([`Answered`]) before that goes out, and the other lines of a gate, as a refusal ([`Refused`]) or a
+//! reading ([`Reading`]). Each may report what precedes it in the file ([`Preceding`]). Texts of JSON
+//! are judged by the reader of the crate `json` and written anew, without white space, so that this
+//! reader gets from each line what was noted. A line that was not written whole poisons the journal:
+//! it must be opened again.
 #![tactic(auto)]
 
 mod answered;
 mod asked;
 mod body;
+mod came;
 mod check;
+mod contents;
+mod gate;
 mod head;
 mod journal;
 pub mod laws;
@@ -27,20 +32,32 @@ mod line;
 mod link;
 mod members;
 mod nesting;
+mod notes;
 mod open;
+mod preceding;
+mod reading;
+mod refused;
 mod show;
 mod text_error;
 mod unwritten;
+mod vault;
 mod wrong;
 
 pub use answered::Answered;
 pub use asked::Asked;
 pub use body::Body;
+pub use came::Came;
 pub use check::{Checked, check_journal};
+pub use contents::ContentsPlace;
+pub use gate::{Begun, Clock, Ended, Settings};
 pub use head::Head;
 pub use journal::Journal;
 pub use line::{Line, head_of};
 pub use link::follow;
 pub use open::{Opened, open_journal};
+pub use preceding::{FileBefore, Preceding};
+pub use reading::Reading;
+pub use refused::Refused;
 pub use unwritten::Unwritten;
+pub use vault::{Stored, Upload};
 pub use wrong::{Wrong, WrongLine};

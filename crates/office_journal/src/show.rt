@@ -3,8 +3,7 @@ ghost use Rattle.std.specs.Prelude.{◌≡◌, ◌<◌, ◌^◌, ◌++◌, OnOk,
 ghost use Rattle.std.specs.Char.{digit_char};
 ghost use Rattle.office_journal.specs.Shown.{escaped, is_hiding, shown, shown_char};
 
-use crate::text_error::TextError;
-use std::alloc::Global;
+use std::alloc::{AllocError, Global};
 
 /// Reports whether a character changes how a terminal shows a line.
 fn is_hiding(c: char) -> bool
@@ -43,7 +42,7 @@ fn escape(c: char) -> [u8; 6]
 }
 
 /// Appends one character, escaped if it changes how a terminal shows a line.
-fn push_shown(out: &mut Vec<u8>, c: char) -> Result<(), TextError>
+fn push_shown(out: &mut Vec<u8>, c: char) -> Result<(), AllocError>
     ensures { OnOk result (out.new.items ≡ out.old.items ++ shown_char c) }
 {
     if is_hiding(c) {
@@ -58,7 +57,7 @@ fn push_shown(out: &mut Vec<u8>, c: char) -> Result<(), TextError>
 /// Returns a text of JSON as a terminal may show it, in which each character that changes how a
 /// terminal shows a line is escaped.
 #[tactic(auto, unfolding(crate::specs::Shown::shown))]
-pub(crate) fn show(alloc: Global, text: &str) -> Result<Vec<u8>, TextError>
+pub(crate) fn show(alloc: Global, text: &str) -> Result<Vec<u8>, AllocError>
     ensures { IfOk result (λ out. out.items ≡ shown text.now) }
 {
     let mut out = Vec::with_capacity(alloc, text.len())?;

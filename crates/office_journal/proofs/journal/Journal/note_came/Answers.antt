@@ -1,0 +1,7 @@
+use Rattle.office_journal.specs.Kinds.{came_fields}
+use Rattle.office_journal.proofs.Put.{all_tokens}
+use Rattle.office_journal.proofs.journal.Journal.note_came.Goals as goal
+
+pub returns-clause-noted : goal.returns-clause-noted
+returns-clause-noted g c =
+    c.note.ensures.noted (came_fields c.args.came.now) (all_tokens _ _ _ c.new_members-members.ensures.tokens c.in_ok-put.ensures) c.in_ok-put.ensures.numbers c.in_ok-put.ensures.shallow

@@ -1,0 +1,9 @@
+use Rattle.std.proofs.Common.{arith}
+use Rattle.office_journal.proofs.Put.{puts_pair}
+use Rattle.office_journal.proofs.members.put_sum.Goals as goal
+
+pub returns : goal.returns
+returns c =
+    puts_pair c.args.members.now c.key.new.self c.begin_object.new.self c.put_number.new.members c.put_digest.new.members c.end_object.new.self c.args.name.now _ _ _ _
+    c.in_ok-key.ensures.room.0 c.in_ok-key.ensures.ok c.in_ok-begin_object.ensures.room.0 c.in_ok-begin_object.ensures.ok
+    c.in_ok-put_number.ensures c.in_ok-put_digest.ensures (omega arith) (omega arith) c.in_ok-end_object.ensures.room.0 c.in_ok-end_object.ensures.ok
