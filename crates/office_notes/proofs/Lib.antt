@@ -1,0 +1,5 @@
+pub mod FlatValues
+pub mod MembersBack
+pub mod ReadNumbers
+pub mod Readings
+pub mod SameNotes

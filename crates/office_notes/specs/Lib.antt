@@ -1,0 +1,4 @@
+pub mod Acts
+pub mod Laws
+pub mod Objects
+pub mod Parts
