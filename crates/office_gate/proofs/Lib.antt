@@ -1,3 +1,5 @@
+pub mod ByDeeds
+pub mod Gated
 pub mod Given
 pub mod NextDenied
 pub mod Visited

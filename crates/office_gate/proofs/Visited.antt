@@ -51,7 +51,7 @@ settings_if : (b : Bool) (settings : Settings) (day : Option ℤ) (name : Option
 settings_if true settings day name = settings_by settings day name
 settings_if false settings day name = tt
 
-settings_stated : (gate : Gate) (token name day : Values) → IfSome (visitor_stated gate token name day) (λ it. it.settings ≡ gate.policy)
+pub settings_stated : (gate : Gate) (token name day : Values) → IfSome (visitor_stated gate token name day) (λ it. it.settings ≡ gate.policy)
 settings_stated gate token name day = settings_if (has_value gate.token token) gate.policy (stated_day day) (stated_name name)
 
 -- ---- a request that came
@@ -60,7 +60,7 @@ module _ {S : Type 0} (g : Ghosts S) (gate : Gate) (it : ProxiedRequest) (sendin
   abbrev pub stated : Option Visitor
   stated = visitor_stated gate (values_of it.lines.token) (values_of it.lines.name) (values_of it.lines.day)
 
-  is_stated : (h : RequestHead) (rest : List ℕ) → IsProxiedFrom h rest it → stated ≡ visitor_among gate (map name_and_value h.fields)
+  pub is_stated : (h : RequestHead) (rest : List ℕ) → IsProxiedFrom h rest it → stated ≡ visitor_among gate (map name_and_value h.fields)
   is_stated h rest from =
       let fields = map name_and_value h.fields in
       ap (λ (token : Values). visitor_stated gate token (values_of it.lines.name) (values_of it.lines.day)) from.lines.token

@@ -1,8 +1,12 @@
 pub mod Answering
+pub mod ByDeeds
 pub mod Exchanges
+pub mod InForce
 pub mod Lists
 pub mod Paths
 pub mod Performing
 pub mod Replies
+pub mod Secrets
+pub mod Sessions
 pub mod Stated
 pub mod Visitors

@@ -95,8 +95,10 @@ fn perform_permitted<S: Alter>(
     }
 }
 
-/// Performs acts unless one of them is denied to the visitor in whatever office, and answers them.
-fn perform_unless_denied<S: Alter>(
+/// Performs acts for a visitor, as far as each is permitted in the office after those before it, and
+/// answers them. None is performed if one of them is denied in whatever office. `Memory` comes if
+/// memory was refused for the answer, and what was done is kept then.
+pub fn perform_for<S: Alter>(
     alloc: Global,
     keeper: &Keeper<'_>,
     desk: &mut Desk<S>,
@@ -124,7 +126,7 @@ pub(crate) fn perform_body_for<S: Alter>(
         desk.new }
 {
     match read_acts(alloc, body) {
-        Ok(acts) => perform_unless_denied(alloc, keeper, desk, acts.as_slice()),
+        Ok(acts) => perform_for(alloc, keeper, desk, acts.as_slice()),
         Err(ListFault::NotJson) => Ok(error_reply(RequestError::Json)),
         Err(ListFault::BadAct(place, refusal)) => bad_act_reply(alloc, place, refusal),
         Err(ListFault::Memory) => Err(Memory),

@@ -1,10 +1,14 @@
-//! What serving a visitor means, as a law that is proved: a call of it does nothing.
+//! What serving visitors means, as laws that are proved: calls of these do nothing.
 ghost use Rattle.std.specs.Prelude.{◌≡◌, List, None, Some};
 ghost use Rattle.office_access.specs.Deeds.{AllPermitted};
 ghost use Rattle.office_access.specs.Permits.{PermitsResumption};
 ghost use Rattle.office_access.specs.declared.denial.Denial.{Denial};
+ghost use Rattle.office_access.specs.Settings.{Settings};
+ghost use Rattle.office_gate.specs.ByDeeds.{CameByDeeds};
+ghost use Rattle.office_gate.specs.InForce.{IsInForceSince};
 ghost use Rattle.office_gate.specs.Paths.{path_denial};
 ghost use Rattle.office_gate.specs.Performing.{denial_in, permitted_acts_of};
+ghost use Rattle.office_gate.specs.Sessions.{CameByRights};
 ghost use Rattle.office_gate.specs.Visitors.{Visitor};
 ghost use Rattle.office_guard.specs.Permitted.{IsDenied, deeds_of};
 ghost use Rattle.office_http.specs.declared.path_request.PathRequest.TheVariants.{Resume};
@@ -22,4 +26,13 @@ pub fn law_of_visits()
         → denial_in v s acts ≡ Some it → IsDenied v.settings v.today v.name s acts }
     ensures resumed { (v : Visitor) (s : Office)
         → path_denial v s Resume ≡ None → PermitsResumption v.settings s v.name }
+{}
+
+/// If the requests of a gate led from one state to another, acts and resumptions of runs in any
+/// order, deeds led there that were each done by right, under settings in force. So what
+/// `law_of_signatures_by_right`, `law_of_certificates_by_right`, `law_of_two_people_by_right` and
+/// `law_of_openers` say of such deeds holds of the office.
+pub fn law_of_gated_offices()
+    ensures { (first : Settings) (s t : State) → CameByRights (IsInForceSince first) s t
+        → CameByDeeds (IsInForceSince first) s t }
 {}

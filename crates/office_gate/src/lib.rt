@@ -6,8 +6,11 @@
 //! path asks for is denied or served. What is denied is answered with status 403 and the reason.
 //! [`serve_visit`] reads one request with what a proxy states, the secret that it shares with the
 //! office, the name that signed in and the day, as [`Gate::visitor`] reads these, and answers it.
+//! [`serve_visits`] serves one connection after another, each under the settings of its moment, which
+//! an [`Access`] reads anew.
 #![tactic(auto)]
 
+mod access;
 mod acts;
 mod answers;
 mod denials;
@@ -16,8 +19,14 @@ mod gate;
 pub mod laws;
 mod lists;
 mod readings;
+mod secret;
+mod sessions;
 
+pub use access::{Access, AccessError, SettingsText};
+pub use acts::perform_for;
 pub use answers::answer_for;
 pub use denials::{denial_reply, denied_reply, token_reply};
 pub use exchange::{answer_visit, serve_visit};
 pub use gate::Gate;
+pub use secret::secret_in;
+pub use sessions::serve_visits;
