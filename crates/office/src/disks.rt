@@ -44,7 +44,7 @@ pub(crate) fn disk_of_process(rt: &HostRuntime) -> Result<Disk, Exit> {
 /// Makes an office's file, empty, where there is none, so that its owner alone may read it,
 /// whatever the process takes away of a mode; the log gets the file's mode as it is made. What
 /// hinders it hinders the opening too.
-fn make_private(rt: &HostRuntime, file: &str) {
+pub(crate) fn make_private(rt: &HostRuntime, file: &str) {
     let _ = OpenOptions::new()
         .write(true)
         .create_new(true)
@@ -119,6 +119,11 @@ pub(crate) fn run_in<R: Read>(
     }
 }
 
+/// Binds a port of 127.0.0.1, which no other machine reaches.
+pub(crate) fn bound_to(rt: &HostRuntime, port: u16) -> io::Result<TcpListener> {
+    TcpListener::bind(rt, SocketAddr::from((Ipv4Addr::LOCALHOST, port)))
+}
+
 /// Serves the office at a place, whose files are opened by this start.
 fn serve_over<S: Start>(
     rt: &HostRuntime,
@@ -147,7 +152,7 @@ pub(crate) fn serve_in(rt: &HostRuntime, place: Place<'_>, port: u16, count: u32
     let Ok(routes) = Routes::new(rt.alloc()) else {
         return Exit::Fault(Fault::Memory);
     };
-    let Ok(listener) = TcpListener::bind(rt, SocketAddr::from((Ipv4Addr::LOCALHOST, port))) else {
+    let Ok(listener) = bound_to(rt, port) else {
         return Exit::Socket;
     };
     match place.disk {

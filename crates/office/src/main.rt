@@ -6,8 +6,10 @@
 //! first.
 #![tactic(auto)]
 
+mod access;
 mod disks;
 
+use crate::access::{Door, gate_in};
 use crate::disks::{Place, apply_in, disk_of_process, run_in, serve_in};
 use clap::error::ErrorKind;
 use office_base::{Stop, read_whole};
@@ -63,6 +65,16 @@ fn run_on_disk(rt: &HostRuntime, disk: Disk, order: &Order<'_>) -> u8 {
         }
         Order::Serve { file, port, count } => {
             report_exit(rt, serve_in(rt, Place { file, disk }, *port, *count))
+        }
+        Order::Gate {
+            file,
+            port,
+            count,
+            access,
+            token,
+        } => {
+            let door = Door { access, token };
+            report_exit(rt, gate_in(rt, Place { file, disk }, *port, *count, door))
         }
         Order::Due { .. } | Order::Plan { .. } | Order::Nothing => report_exit(rt, Exit::BadWords),
     }

@@ -29,6 +29,7 @@ pub(crate) const ROWS: &str = "
     words office overdue office.db 0001-01-01 0 = overdue 0001-01-01 0 office.db
     words office overdue office.db 2999-12-31 03650 = overdue 2999-12-31 3650 office.db
     words office serve office.db 65535 1000000 = serve 65535 1000000 office.db
+    words office gate office.db 8080 3 city.access token = gate 8080 3 office.db city.access token
 
     # words that are no command
     words office due years 1 none = MissingRequiredArgument
@@ -40,7 +41,7 @@ pub(crate) const ROWS: &str = "
     # what is printed of them
     text office due --strange = error: unexpected argument '--strange' found\\n\\n  tip: to pass '--strange' as a value, use '-- --strange'\\n\\nUsage: office due <UNIT> <COUNT> <OFFSET> <DAY>\\n\\nFor more information, try '--help'.\\n
     text office dew = error: unrecognized subcommand 'dew'\\n\\nUsage: office <COMMAND>\\n\\nFor more information, try '--help'.\\n
-    text office help = A records disposal office with legal holds\\n\\nUsage: office <COMMAND>\\n\\nCommands:\\n  due          Prints the due day of a period that begins on a day\\n  plan         Prints the due day of each record of a plan file\\n  init         Opens the office in a file, or makes a new one there\\n  apply        Does the acts of a JSON array, one after another\\n  resume       Takes up the run that is open, to its end\\n  certificate  Prints the certificate of a run\\n  import       Adds the records of a CSV file, one after another\\n  export       Writes a register of the office as CSV\\n  overdue      Writes the register of what is overdue as CSV\\n  serve        Answers requests at a port of this machine\\n  help         Print this message or the help of the given subcommand(s)\\n\\nOptions:\\n  -h, --help  Print help\\n
+    text office help = A records disposal office with legal holds\\n\\nUsage: office <COMMAND>\\n\\nCommands:\\n  due          Prints the due day of a period that begins on a day\\n  plan         Prints the due day of each record of a plan file\\n  init         Opens the office in a file, or makes a new one there\\n  apply        Does the acts of a JSON array, one after another\\n  resume       Takes up the run that is open, to its end\\n  certificate  Prints the certificate of a run\\n  import       Adds the records of a CSV file, one after another\\n  export       Writes a register of the office as CSV\\n  overdue      Writes the register of what is overdue as CSV\\n  serve        Answers requests at a port of this machine\\n  gate         Answers requests for the names that a proxy states\\n  help         Print this message or the help of the given subcommand(s)\\n\\nOptions:\\n  -h, --help  Print help\\n
 
     # days of no import
     words office import office.db 2024-1-02 letters.csv = refused 2
@@ -90,6 +91,9 @@ pub(crate) const ROWS: &str = "
     words office serve office.db 80 +1 = refused 2
     words office serve office.db 0 many = refused 2
     words office serve office.db http 0 = refused 2
+    words office gate office.db 0 1 city.access token = refused 3
+    words office gate office.db 80 many city.access token = refused 2
+    words office gate office.db 80 1 city.access = MissingRequiredArgument
 
     # disks
     disk OFFICE_DISK = Any
@@ -161,6 +165,17 @@ fn report_order(order: &Order<'_>, out: &mut Vec<u8>) -> Option<()> {
             write!(out, "serve {port} {count}")
                 .ok()
                 .and(push_all(out, &["", file]))
+        }
+        Order::Gate {
+            file,
+            port,
+            count,
+            access,
+            token,
+        } => {
+            write!(out, "gate {port} {count}")
+                .ok()
+                .and(push_all(out, &["", file, access, token]))
         }
         Order::Nothing => None,
     }

@@ -15,7 +15,7 @@ use Rattle.clap.specs.Lexer.{long_of, short_of}
 use Rattle.clap.specs.declared.error.kind.ErrorKind.{ErrorKind}
 use Rattle.clap.specs.declared.error.kind.ErrorKind.TheVariants.{DisplayHelp, DisplayHelpOnMissingArgumentOrSubcommand, InvalidSubcommand, MissingSubcommand}
 use Rattle.clap.proofs.OnLiterals.{clap_on_literals}
-use Rattle.office_command_line.specs.Command.{CommandLine, line_in, no_line, office_app, with_csv_commands, with_file_commands, with_import_command, with_plain_commands, with_register_commands, with_run_commands, with_service_command}
+use Rattle.office_command_line.specs.Command.{CommandLine, line_in, no_line, office_app, with_csv_commands, with_file_commands, with_import_command, with_plain_commands, with_register_commands, with_run_commands, with_service_commands}
 
 -- ---- a walk without a fault stops at no `help`
 
@@ -197,7 +197,7 @@ asks : {x : CommandLine} → is_nothing x ≡ false → x ≢ no_line
 asks h e = true≢false (sym (ap is_nothing e) ∙ h)
 
 all_ask : AllAsk (built office_app).subs
-unfolding clap_on_literals office_app with_service_command with_csv_commands with_register_commands with_import_command with_run_commands with_file_commands with_plain_commands
+unfolding clap_on_literals office_app with_service_commands with_csv_commands with_register_commands with_import_command with_run_commands with_file_commands with_plain_commands
 all_ask = (
   λ name rows hit other. asks refl,
   (
@@ -218,7 +218,10 @@ all_ask = (
                   λ name rows hit other. asks refl,
                   (
                     λ name rows hit other. asks refl,
-                    (λ name rows hit other. absurd (named_help name hit other), tt),
+                    (
+                      λ name rows hit other. asks refl,
+                      (λ name rows hit other. absurd (named_help name hit other), tt),
+                    ),
                   ),
                 ),
               ),
@@ -231,11 +234,11 @@ all_ask = (
 )
 
 office_enabled : (built office_app).top.disable_help_subcommand ≡ false
-unfolding clap_on_literals office_app with_service_command with_csv_commands with_register_commands with_import_command with_run_commands with_file_commands with_plain_commands
+unfolding clap_on_literals office_app with_service_commands with_csv_commands with_register_commands with_import_command with_run_commands with_file_commands with_plain_commands
 office_enabled = refl
 
 office_required : (built office_app).top.subcommand_required ≡ true
-unfolding clap_on_literals office_app with_service_command with_csv_commands with_register_commands with_import_command with_run_commands with_file_commands with_plain_commands
+unfolding clap_on_literals office_app with_service_commands with_csv_commands with_register_commands with_import_command with_run_commands with_file_commands with_plain_commands
 office_required = refl
 
 pub command_named : (words : List Text) → fault_of office_app words ≡ [] → line_in (subcommand_of office_app words) ≢ no_line

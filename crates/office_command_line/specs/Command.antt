@@ -5,7 +5,7 @@ use Rattle.clap.specs.Words.{App, Row, Rule, Text, first_of, new_app, new_rule, 
 use Rattle.office_command_line.specs.declared.command.CommandRow.{CommandRow}
 use Rattle.office_command_line.specs.declared.command.Operand.{Operand}
 use Rattle.office_command_line.specs.declared.words.Words.{Words}
-use Rattle.office_command_line.specs.declared.words.Words.TheVariants.{Apply, Certificate, Due, Export, Import, Init, Nothing, Overdue, Plan, Resume, Serve}
+use Rattle.office_command_line.specs.declared.words.Words.TheVariants.{Apply, Certificate, Due, Export, Import, Init, Nothing, Overdue, Plan, Resume, Serve, Gate}
 
 -- an operand that must be there
 abbrev pub operand : Text → Rule
@@ -73,6 +73,13 @@ serve_app =
     with_rule (with_rule (with_rule (new_app (codes "serve"))
     (operand (codes "FILE"))) (operand (codes "PORT"))) (operand (codes "COUNT"))
 
+-- `gate FILE PORT COUNT ACCESS TOKEN`
+abbrev pub gate_app : App
+gate_app =
+    with_rule (with_rule (with_rule (with_rule (with_rule (new_app (codes "gate"))
+    (operand (codes "FILE"))) (operand (codes "PORT"))) (operand (codes "COUNT")))
+    (operand (codes "ACCESS"))) (operand (codes "TOKEN"))
+
 -- a command that must have one of its subcommands, and shows its help where it has no word at all
 abbrev pub with_commands : App → App
 with_commands app = record app { top = record (app.top) { subcommand_required = true; arg_required_else_help = true } }
@@ -101,14 +108,14 @@ with_register_commands app = with_subcommand (with_subcommand app export_app.top
 unfoldable pub with_csv_commands : App → App
 with_csv_commands app = with_register_commands (with_import_command app)
 
--- with the command that answers requests to that office
-unfoldable pub with_service_command : App → App
-with_service_command app = with_subcommand app serve_app.top
+-- with the commands that answer requests to that office
+unfoldable pub with_service_commands : App → App
+with_service_commands app = with_subcommand (with_subcommand app serve_app.top) gate_app.top
 
 -- `office COMMAND ..`
 unfoldable pub office_app : App
 office_app =
-    with_service_command (with_csv_commands
+    with_service_commands (with_csv_commands
     (with_run_commands (with_file_commands (with_plain_commands (with_commands (new_app (codes "office")))))))
 
 -- the text of an operand; `clap` takes no words in which one lacks
@@ -128,6 +135,7 @@ pub data CommandLine : Type 0 where
   export_line : Text → Text → CommandLine
   overdue_line : Text → Text → Text → CommandLine
   serve_line : Text → Text → Text → CommandLine
+  gate_line : Text → Text → Text → Text → Text → CommandLine
 
 abbrev pub line_of : Words → CommandLine
 line_of (Due unit count offset day) = due_line unit.now count.now offset.now day.now
@@ -140,6 +148,7 @@ line_of (Import file day csv) = import_line file.now day.now csv.now
 line_of (Export file register) = export_line file.now register.now
 line_of (Overdue file day count) = overdue_line file.now day.now count.now
 line_of (Serve file port count) = serve_line file.now port.now count.now
+line_of (Gate file port count access token) = gate_line file.now port.now count.now access.now token.now
 line_of Nothing = no_line
 
 abbrev pub due_in : List Row → CommandLine
@@ -177,6 +186,17 @@ abbrev pub serve_in : List Row → CommandLine
 serve_in rows =
     serve_line (text_of (codes "FILE") rows) (text_of (codes "PORT") rows) (text_of (codes "COUNT") rows)
 
+abbrev pub gate_in : List Row → CommandLine
+gate_in rows =
+    gate_line (text_of (codes "FILE") rows) (text_of (codes "PORT") rows) (text_of (codes "COUNT") rows)
+    (text_of (codes "ACCESS") rows) (text_of (codes "TOKEN") rows)
+
+-- the command line of a subcommand that answers requests
+abbrev pub service_in : Text → List Row → CommandLine
+service_in name rows =
+    if bytes_eq name (codes "serve") then serve_in rows
+    else (if bytes_eq name (codes "gate") then gate_in rows else no_line)
+
 -- the command line of a subcommand with its matches
 abbrev pub line_in : Option (Text × List Row) → CommandLine
 line_in None = no_line
@@ -189,5 +209,4 @@ line_in (Some p) =
     else (if bytes_eq p.0 (codes "certificate") then certificate_in p.1
     else (if bytes_eq p.0 (codes "import") then import_in p.1
     else (if bytes_eq p.0 (codes "export") then export_in p.1
-    else (if bytes_eq p.0 (codes "overdue") then overdue_in p.1
-    else (if bytes_eq p.0 (codes "serve") then serve_in p.1 else no_line)))))))))
+    else (if bytes_eq p.0 (codes "overdue") then overdue_in p.1 else service_in p.0 p.1))))))))

@@ -7,12 +7,12 @@ use Rattle.office_base.specs.EntityNumbers.{entity_number}
 use Rattle.office_days.specs.Texts.{day_named}
 use Rattle.office_base.specs.declared.refusal.Refusal.{Refusal}
 use Rattle.office_base.specs.declared.refusal.Refusal.TheVariants.{BadText}
-use Rattle.office_command_line.specs.Command.{CommandLine, no_line, apply_line, due_line, plan_line, init_line, resume_line, certificate_line, import_line, export_line, overdue_line, serve_line}
+use Rattle.office_command_line.specs.Command.{CommandLine, no_line, apply_line, due_line, plan_line, init_line, resume_line, certificate_line, import_line, export_line, overdue_line, serve_line, gate_line}
 use Rattle.office_command_line.specs.Services.{service_numbers}
 use Rattle.office_command_line.specs.declared.register.Register.{Register}
 use Rattle.office_command_line.specs.declared.register.Register.TheVariants as register
 use Rattle.office_command_line.specs.declared.order.Order.{Order}
-use Rattle.office_command_line.specs.declared.order.Order.TheVariants.{Apply, Certificate, Due, Export, Import, Init, Nothing, Overdue, Plan, Resume, Serve}
+use Rattle.office_command_line.specs.declared.order.Order.TheVariants.{Apply, Certificate, Due, Export, Import, Init, Nothing, Overdue, Plan, Resume, Serve, Gate}
 
 -- a command with its operands read; `due` and `plan` read theirs themselves
 pub data Command : Type 0 where
@@ -27,6 +27,7 @@ pub data Command : Type 0 where
   export : Text → Register → Command
   overdue : Text → ℤ → ℕ → Command
   serve : Text → ℕ → ℕ → Command
+  gate : Text → ℕ → ℕ → Text → Text → Command
 
 abbrev pub command : Order → Command
 command (Due unit count offset day) = due unit.now count.now offset.now day.now
@@ -39,6 +40,7 @@ command (Import file day csv) = import file.now day csv.now
 command (Export file register) = export file.now register
 command (Overdue file day days) = overdue file.now day days
 command (Serve file port count) = serve file.now port count
+command (Gate file port count access token) = gate file.now port count access.now token.now
 command Nothing = nothing
 
 -- the certificate of the run with that number, where a text was read as one
@@ -73,6 +75,11 @@ abbrev pub service_of : Text → Result (ℕ × ℕ) Refusal → Result Command 
 service_of file (Ok p) = Ok (serve file p.0 p.1)
 service_of file (Err refusal) = Err refusal
 
+-- the same for the names that a proxy states, by the settings in a file and the secret in another
+abbrev pub gate_of : Text → Text → Text → Result (ℕ × ℕ) Refusal → Result Command Refusal
+gate_of file access token (Ok p) = Ok (gate file p.0 p.1 access token)
+gate_of file access token (Err refusal) = Err refusal
+
 -- the command of a command line, or why an operand is refused
 abbrev pub command_read : CommandLine → Result Command Refusal
 command_read no_line = Ok nothing
@@ -86,3 +93,4 @@ command_read (import_line file day csv) = importation_of file csv (day_named day
 command_read (export_line file text) = exportation_of file (register_named text)
 command_read (overdue_line file day count) = overdue_of file (day_named day) (confirm_days_named count)
 command_read (serve_line file port count) = service_of file (service_numbers port count)
+command_read (gate_line file port count access token) = gate_of file access token (service_numbers port count)

@@ -2,7 +2,7 @@
 ghost use Rattle.std.specs.Prelude.{◌≡◌, IfOk, false};
 ghost use Rattle.clap.specs.Words.{app_of, new_app, rule_of};
 ghost use Rattle.clap.specs.declared.builder.command.Command.TheViews.{out-Command as fields_of};
-ghost use Rattle.office_command_line.specs.Command.{office_app, operand, with_csv_commands, with_file_commands, with_import_command, with_operands, with_plain_commands, with_register_commands, with_row, with_rows, with_run_commands, with_service_command};
+ghost use Rattle.office_command_line.specs.Command.{office_app, operand, with_csv_commands, with_file_commands, with_import_command, with_operands, with_plain_commands, with_register_commands, with_row, with_rows, with_run_commands, with_service_commands};
 
 use clap::{Arg, Command};
 use std::alloc::{AllocError, Global};
@@ -232,26 +232,42 @@ fn with_csv_commands<'a>(alloc: Global, command: Command<'a>) -> Result<Command<
     with_register_commands(alloc, command)
 }
 
-/// With the command that answers requests to that office.
-#[tactic(auto, unfolding(crate::specs::Command::with_service_command))]
-fn with_service_command<'a>(alloc: Global, command: Command<'a>) -> Result<Command<'a>, AllocError>
-    ensures { IfOk result (λ c. app_of c ≡ with_service_command (app_of command.entry)) }
+/// Adds the commands that answer requests to that office.
+#[tactic(auto, unfolding(crate::specs::Command::with_service_commands))]
+fn with_service_commands<'a>(alloc: Global, command: Command<'a>) -> Result<Command<'a>, AllocError>
+    ensures { IfOk result (λ c. app_of c ≡ with_service_commands (app_of command.entry)) }
 {
     with_commands(
         alloc,
         command,
-        &[CommandRow {
-            name: "serve",
-            about: "Answers requests at a port of this machine",
-            operands: &[
-                Operand("FILE", "The office's file"),
-                Operand("PORT", "From 1 to 65535"),
-                Operand(
-                    "COUNT",
-                    "How many connections are served, from 1 to 1000000",
-                ),
-            ],
-        }],
+        &[
+            CommandRow {
+                name: "serve",
+                about: "Answers requests at a port of this machine",
+                operands: &[
+                    Operand("FILE", "The office's file"),
+                    Operand("PORT", "From 1 to 65535"),
+                    Operand(
+                        "COUNT",
+                        "How many connections are served, from 1 to 1000000",
+                    ),
+                ],
+            },
+            CommandRow {
+                name: "gate",
+                about: "Answers requests for the names that a proxy states",
+                operands: &[
+                    Operand("FILE", "The office's file"),
+                    Operand("PORT", "From 1 to 65535"),
+                    Operand(
+                        "COUNT",
+                        "How many connections are served, from 1 to 1000000",
+                    ),
+                    Operand("ACCESS", "A file of settings: who may do what"),
+                    Operand("TOKEN", "A file with the secret of the proxy"),
+                ],
+            },
+        ],
     )
 }
 
@@ -267,5 +283,5 @@ pub(crate) fn office_command<'a>(alloc: Global) -> Result<Command<'a>, AllocErro
     let command = with_file_commands(alloc, command)?;
     let command = with_run_commands(alloc, command)?;
     let command = with_csv_commands(alloc, command)?;
-    with_service_command(alloc, command)
+    with_service_commands(alloc, command)
 }

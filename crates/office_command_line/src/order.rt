@@ -64,6 +64,15 @@ pub enum Order<'a> {
         port: u16,
         count: u32,
     },
+    /// Answers requests as [`Order::Serve`] does, as far as the name that a proxy states may have
+    /// them by the settings in the file `access`; the file `token` has the secret of the proxy.
+    Gate {
+        file: &'a str,
+        port: u16,
+        count: u32,
+        access: &'a str,
+        token: &'a str,
+    },
     /// No command.
     Nothing,
 }
@@ -114,6 +123,22 @@ pub fn order_of<'a>(words: Words<'a>) -> Result<Order<'a>, Refusal>
         },
         Words::Serve { file, port, count } => match read_service(port, count) {
             Ok((port, count)) => Ok(Order::Serve { file, port, count }),
+            Err(refusal) => Err(refusal),
+        },
+        Words::Gate {
+            file,
+            port,
+            count,
+            access,
+            token,
+        } => match read_service(port, count) {
+            Ok((port, count)) => Ok(Order::Gate {
+                file,
+                port,
+                count,
+                access,
+                token,
+            }),
             Err(refusal) => Err(refusal),
         },
         Words::Nothing => Ok(Order::Nothing),

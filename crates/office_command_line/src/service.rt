@@ -1,4 +1,4 @@
-//! The two numbers of `serve`, read from their operands: its port and its count of connections.
+//! The two numbers of `serve` and `gate`, read from their operands: its port and its count of connections.
 ghost use Rattle.std.specs.Prelude.{◌≡◌, None, Some, if◌then◌else◌};
 ghost use Rattle.office_command_line.specs.Services.{is_connection_count, is_port, service_numbered, service_numbers};
 

@@ -1,7 +1,7 @@
 //! The words of the command line as a command with its operands, before these are read.
 ghost use Rattle.std.specs.Prelude.{◌≡◌, ◌≢◌, IfOk, IfErr, true, map};
 ghost use Rattle.clap.specs.Words.{FailsBy, fault_of, found_of, kind_of, rows_of, subcommand_of, subcommand_rows_of, takes};
-ghost use Rattle.office_command_line.specs.Command.{apply_in, line_in, line_of, due_in, export_in, import_in, init_in, no_line, certificate_in, office_app, overdue_in, plan_in, resume_in, serve_in, text_of};
+ghost use Rattle.office_command_line.specs.Command.{apply_in, line_in, line_of, due_in, export_in, import_in, init_in, no_line, certificate_in, office_app, overdue_in, gate_in, plan_in, resume_in, serve_in, service_in, text_of};
 
 use crate::command::office_command;
 use clap::error::ErrorKind;
@@ -52,6 +52,13 @@ pub enum Words<'a> {
         file: &'a str,
         port: &'a str,
         count: &'a str,
+    },
+    Gate {
+        file: &'a str,
+        port: &'a str,
+        count: &'a str,
+        access: &'a str,
+        token: &'a str,
     },
     /// No command: `read_words` never gives it.
     Nothing,
@@ -156,6 +163,30 @@ fn serve_words<'a>(matches: &ArgMatches<'a>) -> Words<'a>
     }
 }
 
+fn gate_words<'a>(matches: &ArgMatches<'a>) -> Words<'a>
+    ensures { line_of result ≡ gate_in (rows_of (found_of matches.now)) }
+{
+    let (port, count) = (operand(matches, "PORT"), operand(matches, "COUNT"));
+    Words::Gate {
+        file: operand(matches, "FILE"),
+        port,
+        count,
+        access: operand(matches, "ACCESS"),
+        token: operand(matches, "TOKEN"),
+    }
+}
+
+/// The words of the commands that answer requests.
+fn service_words<'a>(name: &str, matches: &ArgMatches<'a>) -> Words<'a>
+    ensures { line_of result ≡ service_in name.now (rows_of (found_of matches.now)) }
+{
+    match name {
+        "serve" => serve_words(matches),
+        "gate" => gate_words(matches),
+        _ => Words::Nothing,
+    }
+}
+
 fn words_of<'a>(matches: &ArgMatches<'a>) -> Words<'a>
     ensures { line_of result ≡ line_in (subcommand_rows_of matches.now) }
 {
@@ -169,8 +200,8 @@ fn words_of<'a>(matches: &ArgMatches<'a>) -> Words<'a>
         Some(("import", inner)) => import_words(inner),
         Some(("export", inner)) => export_words(inner),
         Some(("overdue", inner)) => overdue_words(inner),
-        Some(("serve", inner)) => serve_words(inner),
-        _ => Words::Nothing,
+        Some((name, inner)) => service_words(name, inner),
+        None => Words::Nothing,
     }
 }
 

@@ -15,12 +15,12 @@ use Rattle.office_life.specs.Opening.{StopsOffice}
 use Rattle.office_life.specs.Standing.{RestsAt}
 use Rattle.office_life.specs.Tables.{AreTablesAt, IsOfficeAt}
 use Rattle.office_command_line.specs.Orders.{Command}
-use Rattle.office_commands.specs.NextCommand.{IsLeftBy, IsServedTo}
+use Rattle.office_commands.specs.NextCommand.{IsLeftBy}
 use Rattle.office_commands.specs.Opening.{OfficeOpenFailed, WasFound}
 use Rattle.office_commands.specs.Running.{RunEnds}
-use Rattle.office_commands.specs.Serving.{IsDeskOf, ServiceEnds}
+use Rattle.office_commands.specs.Serving.{IsDeskOf, ServiceEndsBy}
 use Rattle.office_commands.specs.declared.exit.Exit.{Exit}
-use Rattle.office_commands.proofs.NextService.{service_so}
+use Rattle.office_commands.proofs.NextService.{Leading, ServedAt, service_so}
 use Rattle.office_commands.proofs.NextStates.{IsEnded, IsOneDatabase, StaySound, at_before, at_unopened, command_so, was_found}
 use Rattle.office_commands.proofs.Unopened.{stops_there, stops_unmade}
 
@@ -68,9 +68,12 @@ module _ (one : IsOneDatabase) (stay : StaySound) (empty : IsSound empty_state) 
       command_so stay ends (IsOfficeOrBefore was) (λ db u at. inl at) g old new s (sound_at empty was s rests) (rest_found one stay empty ends was is s clean rests) (before_rest one stay empty ends was is s clean rests)
       (unopened_rest one stay empty ends was is s clean rests) (stops_rest one stay empty ends was is s clean rests) order text written after exit it
 
-  pub service_from : (port count : ℕ) (written after : Option (List ℕ)) (exit : Exit) → ServiceEnds g port count old new written after exit
-      → (db : Trees) → (state g new).may_leave db → (u : State) × IsServedTo s u × IsOfficeOrBefore (state g old) db u
-  service_from port count written after exit it =
-      let was = state g old in
-      let is = state g new in
-      service_so stay ends (IsOfficeOrBefore was) (λ db u at. inl at) g old new s clean (desk_rest rests) (unopened_rest one stay empty ends was is s clean rests) port count written after exit it
+  -- a service that leads there, by where each request leaves a desk
+  module _ (To : State → State → Type 0) (leading : Leading To) (Leaves : State → DeskState S → Type 0)
+      (left : (t : State) → IsSound t → (d : DeskState S) → Leaves t d → ServedAt To leading stay ends (IsOfficeOrBefore (state g old)) (λ db u at. inl at) g t d) where
+    pub service_from : (port count : ℕ) (written after : Option (List ℕ)) (exit : Exit) → ServiceEndsBy Leaves g port count old new written after exit
+        → (db : Trees) → (state g new).may_leave db → (u : State) × To s u × IsOfficeOrBefore (state g old) db u
+    service_from port count written after exit it =
+        let was = state g old in
+        let is = state g new in
+        service_so To leading stay ends (IsOfficeOrBefore was) (λ db u at. inl at) g old new s clean (desk_rest rests) (unopened_rest one stay empty ends was is s clean rests) Leaves left port count written after exit it

@@ -16,6 +16,8 @@ use Rattle.sqlite.specs.Held.{AreDatabases, Held}
 use Rattle.sqlite.specs.State.{State as FileState, HasCleanDisk}
 use Rattle.sqlite.specs.declared.file.Leftover.{Leftover}
 use Rattle.sqlite.specs.declared.file.Leftover.TheVariants as leftover
+use Rattle.office_gate.specs.InForce.{IsInForceSince}
+use Rattle.office_gate.specs.Sessions.{LeavesGated, stayed as stayed_by_rights}
 use Rattle.office_rules.specs.Rows.{rows_of}
 use Rattle.office_rules.specs.Sound.{IsSound}
 use Rattle.office_rules.specs.State.{State, empty_state}
@@ -26,26 +28,30 @@ use Rattle.office_life.specs.declared.reports.Remains.TheVariants as remains
 use Rattle.office_life.specs.Tables.{ContainTables}
 use Rattle.office_life.proofs.LeftTables.{database_of, leaves_tables}
 use Rattle.office_life.proofs.Nothing.{finds_nothing}
-use Rattle.office_commands.specs.FileHistory.{FileHistory, IsFoundNext, IsFoundOf, IsLeftAt, IsLeftKilled, ProgramRun, RunLeads, StateHistory, WasKilled, WasRun, began, led, ran_command, ran_service, remains_left, stayed, went_on}
+use Rattle.office_commands.specs.FileHistory.{FileHistory, IsFoundNext, IsFoundOf, IsLeftAt, IsLeftKilled, ProgramRun, RunLeads, StateHistory, WasKilled, WasRun, began, led, ran_command, ran_gate, ran_service, remains_left, stayed, went_on}
 use Rattle.office_commands.specs.Files.{EndsOver, IsClosedCopy, IsLeftOf, IsOpenedFrom, IsUnclosed}
 use Rattle.office_command_line.specs.Orders as command
 use Rattle.office_command_line.specs.Orders.{Command}
-use Rattle.office_commands.specs.NextCommand.{IsFaultAlone, IsLeftBy}
+use Rattle.office_commands.specs.NextCommand.{IsFaultAlone, IsGatedTo, IsLeftBy, IsServedTo}
+use Rattle.office_wire.specs.Serving.{LeavesServed}
 use Rattle.office_commands.specs.OpenResult.{OpenResult}
 use Rattle.office_commands.specs.Running.{RunEnds}
-use Rattle.office_commands.specs.Serving.{ServiceEnds}
+use Rattle.office_commands.specs.Serving.{GateEnds, ServiceEnds}
 use Rattle.office_commands.specs.Tables.{KeepsTables, SparesTables}
 use Rattle.office_commands.specs.declared.exit.Exit.{Exit}
 use Rattle.office_commands.specs.declared.exit.Exit.TheVariants as how
 use Rattle.office_commands.specs.declared.office_files.FilesLeft.{FilesLeft}
 use Rattle.office_commands.specs.declared.office_files.FilesLeft.TheVariants as files
 use Rattle.office_commands.proofs.FromNoFile.{IsOfficeOrBefore, command_from, service_from, tables_at}
+use Rattle.office_commands.proofs.NextGate.{gated_left, rights_lead}
+use Rattle.office_commands.proofs.NextService.{acts_lead, left_served}
 use Rattle.office_commands.proofs.NextStates.{IsEnded, IsOneDatabase, StaySound}
 
 -- so a run ended over a connection
 abbrev EndedSo : {D : Type 0} {g : Ghosts D} → ProgramRun → Held (FileStore D g) → Held (FileStore D g) → Type 0
 EndedSo (ran_command order text written after exit) was last = RunEnds over_files order (Some text) was last written after exit
 EndedSo (ran_service port count written after exit) was last = ServiceEnds over_files port count was last written after exit
+EndedSo (ran_gate first port count written after exit) was last = GateEnds over_files first port count was last written after exit
 
 -- ---- files that were not opened
 
@@ -141,6 +147,7 @@ are_databases was last s Is rests leaves db may = elim (leaves db may).2 [
 abbrev WasRefused : ProgramRun → Type 0
 WasRefused (ran_command order text written after exit) = (exit ≡ how.Fault fault.Store) × (after ≡ written)
 WasRefused (ran_service port count written after exit) = (exit ≡ how.Fault fault.Store) × (after ≡ written)
+WasRefused (ran_gate first port count written after exit) = (exit ≡ how.Fault fault.Store) × (after ≡ written)
 
 fault_alone : {written after : Option (List ℕ)} {exit : Exit} (s : State) → (exit ≡ how.Fault fault.Store) × (after ≡ written) → IsFaultAlone written after exit s s
 fault_alone s was = record { fault = fault.Store; reported = was.0; stops = tt; untouched = (refl, was.1) }
@@ -154,6 +161,7 @@ order_stays (command.export file register) text written after exit s was = inl (
 order_stays (command.overdue file day n) text written after exit s was = inl (fault_alone s was)
 order_stays (command.certificate file run) text written after exit s was = inl (fault_alone s was)
 order_stays (command.serve file port count) text written after exit s was = (refl, was.1)
+order_stays (command.gate file port count access token) text written after exit s was = (refl, was.1)
 order_stays (command.plan file) text written after exit s was = (refl, was.1)
 order_stays (command.due unit count offset day) text written after exit s was = (refl, was.1)
 order_stays command.nothing text written after exit s was = (refl, was.1)
@@ -162,6 +170,7 @@ order_stays command.nothing text written after exit s was = (refl, was.1)
 stays_at : (run : ProgramRun) (s : State) → WasRefused run → IsLeftAt run s s
 stays_at (ran_command order text written after exit) s was = order_stays order text written after exit s was
 stays_at (ran_service port count written after exit) s was = ([], tt, refl)
+stays_at (ran_gate first port count written after exit) s was = stayed_by_rights
 
 module _ (one : IsOneDatabase) (stay : StaySound) (empty : IsSound empty_state) (ends : IsEnded) {D : Type 0} {g : Ghosts D} where
   -- where a run leaves an office, whatever a crash leaves of its connection
@@ -170,7 +179,15 @@ module _ (one : IsOneDatabase) (stay : StaySound) (empty : IsSound empty_state) 
   leaves_so (ran_command order text written after exit) was last s rests clean ended db may =
       let at = command_from one stay empty ends over_files was last s clean rests order text written after exit ended db may in (at.0, at.1, at.2)
   leaves_so (ran_service port count written after exit) was last s rests clean ended db may =
-      let at = service_from one stay empty ends over_files was last s clean rests port count written after exit ended db may in (at.0, at.1, at.2)
+      let at =
+      service_from one stay empty ends over_files was last s clean rests IsServedTo acts_lead (LeavesServed over_files)
+      (λ t sound d served. left_served stay ends (IsOfficeOrBefore (file_state was)) (λ db u is. inl is) over_files t sound d served)
+      port count written after exit ended db may in (at.0, at.1, at.2)
+  leaves_so (ran_gate first port count written after exit) was last s rests clean ended db may =
+      let at =
+      service_from one stay empty ends over_files was last s clean rests (IsGatedTo first) (rights_lead (IsInForceSince first)) (LeavesGated over_files first)
+      (λ t sound d served. gated_left stay ends (IsOfficeOrBefore (file_state was)) (λ db u is. inl is) over_files first t sound d served)
+      port count written after exit ended db may in (at.0, at.1, at.2)
 
   module _ (run : ProgramRun) (stage : Stage) (image next : Image) where
     -- the run ended so, by what the database returned
@@ -208,10 +225,13 @@ module _ (one : IsOneDatabase) (stay : StaySound) (empty : IsSound empty_state) 
   runs_lead (ran_command order text written after exit) stage image next (Err e) left it known found = ended (ran_command order text written after exit) stage image next (Err e) left ((it.fault, it.silent), it.given, it.kept) known found
   runs_lead (ran_service port count written after exit) stage image next (Ok was) left it known found = ended (ran_service port count written after exit) stage image next (Ok was) left it known found
   runs_lead (ran_service port count written after exit) stage image next (Err e) left it known found = ended (ran_service port count written after exit) stage image next (Err e) left ((it.fault, it.silent), it.given, it.kept) known found
+  runs_lead (ran_gate first port count written after exit) stage image next (Ok was) left it known found = ended (ran_gate first port count written after exit) stage image next (Ok was) left it known found
+  runs_lead (ran_gate first port count written after exit) stage image next (Err e) left it known found = ended (ran_gate first port count written after exit) stage image next (Err e) left ((it.fault, it.silent), it.given, it.kept) known found
 
   pub killed_lead : (run : ProgramRun) (stage : Stage) (image next : Image) (was last : Held (FileStore D g)) → WasKilled run image was last → IsLeftKilled last next → RunLeads run stage image stored next
   killed_lead (ran_command order text written after exit) stage image next was last over = killed (ran_command order text written after exit) stage image next was last over
   killed_lead (ran_service port count written after exit) stage image next was last over = killed (ran_service port count written after exit) stage image next was last over
+  killed_lead (ran_gate first port count written after exit) stage image next was last over = killed (ran_gate first port count written after exit) stage image next was last over
 
 -- ---- any number of runs
 

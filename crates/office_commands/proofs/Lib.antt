@@ -12,6 +12,7 @@ pub mod Imports
 pub mod KeptRest
 pub mod LeftTables
 pub mod NextFiles
+pub mod NextGate
 pub mod NextService
 pub mod NextStates
 pub mod OpenResults

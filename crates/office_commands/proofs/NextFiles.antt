@@ -16,19 +16,27 @@ use Rattle.sqlite.specs.State.{HasCleanDisk}
 use Rattle.sqlite.specs.declared.file.Leftover.{Leftover}
 use Rattle.sqlite.specs.declared.file.Leftover.TheVariants as leftover
 use Rattle.office_rules.specs.Rows.{rows_of}
+use Rattle.office_rules.specs.Sound.{IsSound}
 use Rattle.office_rules.specs.State.{State}
+use Rattle.office_access.specs.Settings.{Settings}
+use Rattle.office_desk.specs.Desk.{DeskState}
+use Rattle.office_gate.specs.InForce.{IsInForceSince}
+use Rattle.office_gate.specs.Sessions.{LeavesGated}
+use Rattle.office_wire.specs.Serving.{LeavesServed}
 use Rattle.office_store.specs.RepresentsRows.{RepresentsRowsIn}
 use Rattle.office_command_line.specs.Orders.{Command}
-use Rattle.office_commands.specs.Files.{ContainedOffice, IsClosedCopy, IsLeftOf, IsUnclosed, RunsInFiles, ServesInFiles}
+use Rattle.office_commands.specs.Files.{ContainedOffice, EndsInFiles, GatesInFiles, IsClosedCopy, IsLeftOf, IsUnclosed, RunsInFiles, ServesInFiles}
 use Rattle.office_commands.specs.OpenResult.{OpenResult}
-use Rattle.office_commands.specs.NextCommand.{ContainOffice, ContainWholeOffice, IsLeftBy, IsServedTo, LeavesAt, LeavesFilesAt, StaysOffice}
+use Rattle.office_commands.specs.NextCommand.{ContainOffice, ContainWholeOffice, IsGatedTo, IsLeftBy, IsServedTo, LeavesAt, LeavesFilesAt, StaysOffice}
 use Rattle.office_life.specs.Tables.{ContainTables, IsOfficeAt}
 use Rattle.office_life.proofs.LeftTables.{database_of, leaves_tables}
+use Rattle.office_commands.specs.Serving.{ServiceEndsBy}
 use Rattle.office_commands.specs.Tables.{SparesTables}
 use Rattle.office_commands.specs.declared.exit.Exit.{Exit}
 use Rattle.office_commands.specs.declared.office_files.FilesLeft.{FilesLeft}
 use Rattle.office_commands.specs.declared.office_files.FilesLeft.TheVariants as files
-use Rattle.office_commands.proofs.NextService.{service_left}
+use Rattle.office_commands.proofs.NextGate.{gated_left, rights_lead}
+use Rattle.office_commands.proofs.NextService.{Leading, ServedAt, acts_lead, left_served, service_left}
 use Rattle.office_commands.proofs.NextStates.{IsEnded, IsOneDatabase, StaySound, command_left}
 
 -- an office of which each page has its sum is one
@@ -97,15 +105,30 @@ command_leaves one stay ends image s order text written after exit (Ok was) left
     command_left one stay ends over_files was last s clean holds.office.sound ed at.0 (subst (RepresentsRowsIn ed (rows_of s)) (sym at.1) holds.office.rows) order text written after exit over.ends)
     over.stays left is_left
 
--- and so does a service
+-- and so does a service, by where each request leaves a desk
+module _ (one : IsOneDatabase) (stay : StaySound) (ends : IsEnded) (To : State → State → Type 0) (leading : Leading To) {D : Type 0} {g : Ghosts D} (Leaves : State → DeskState (FileStore D g) → Type 0)
+    (left_so : (t : State) → IsSound t → (d : DeskState (FileStore D g)) → Leaves t d → ServedAt To leading stay ends IsOfficeAt (λ db u at. at) over_files t d) where
+  pub serving_leaves : (image : Image) (s : State) (port count : ℕ) (written after : Option (List ℕ)) (exit : Exit) (opened : OpenResult g) (left : FilesLeft D g)
+      → ContainOffice image s → EndsInFiles left image opened (λ was last. ServiceEndsBy Leaves over_files port count was last written after exit) written after exit → LeavesFilesAt image s (To s) left
+  serving_leaves image s port count written after exit (Err e) left holds it = refused_at image s (To s) e.1 left it.given it.kept
+  serving_leaves image s port count written after exit (Ok was) left holds (last, over, is_left) =
+      let ed = holds.office.schema_version in
+      let contained : ContainedOffice ed image holds.trees = record { contained = holds.contained; office = holds.office.office } in
+      files_at image s (To s) last
+      (λ clean.
+      let at = over.opened.rest clean ed holds.trees contained in
+      service_left one stay ends over_files was last s clean holds.office.sound To leading Leaves left_so ed at.0 (subst (RepresentsRowsIn ed (rows_of s)) (sym at.1) holds.office.rows) port count written after exit over.ends)
+      over.stays left is_left
+
 pub service_leaves : IsOneDatabase → StaySound → IsEnded → {D : Type 0} {g : Ghosts D} (image : Image) (s : State) (port count : ℕ) (written after : Option (List ℕ)) (exit : Exit) (opened : OpenResult g) (left : FilesLeft D g)
     → ContainOffice image s → ServesInFiles left image opened port count written after exit → LeavesFilesAt image s (IsServedTo s) left
-service_leaves one stay ends image s port count written after exit (Err e) left holds it = refused_at image s (IsServedTo s) e.1 left it.given it.kept
-service_leaves one stay ends image s port count written after exit (Ok was) left holds (last, over, is_left) =
-    let ed = holds.office.schema_version in
-    let contained : ContainedOffice ed image holds.trees = record { contained = holds.contained; office = holds.office.office } in
-    files_at image s (IsServedTo s) last
-    (λ clean.
-    let at = over.opened.rest clean ed holds.trees contained in
-    service_left one stay ends over_files was last s clean holds.office.sound ed at.0 (subst (RepresentsRowsIn ed (rows_of s)) (sym at.1) holds.office.rows) port count written after exit over.ends)
-    over.stays left is_left
+service_leaves one stay ends image s port count written after exit opened left holds it =
+    serving_leaves one stay ends IsServedTo acts_lead (LeavesServed over_files) (λ t sound d served. left_served stay ends IsOfficeAt (λ db u at. at) over_files t sound d served)
+    image s port count written after exit opened left holds it
+
+-- and a gate
+pub gate_leaves : IsOneDatabase → StaySound → IsEnded → {D : Type 0} {g : Ghosts D} (image : Image) (s : State) (first : Settings) (port count : ℕ) (written after : Option (List ℕ)) (exit : Exit) (opened : OpenResult g) (left : FilesLeft D g)
+    → ContainOffice image s → GatesInFiles left image opened first port count written after exit → LeavesFilesAt image s (IsGatedTo first s) left
+gate_leaves one stay ends image s first port count written after exit opened left holds it =
+    serving_leaves one stay ends (IsGatedTo first) (rights_lead (IsInForceSince first)) (LeavesGated over_files first) (λ t sound d served. gated_left stay ends IsOfficeAt (λ db u at. at) over_files first t sound d served)
+    image s port count written after exit opened left holds it

@@ -4,8 +4,12 @@ use Rattle.std.proofs.Math.Seq.{take-length}
 use Rattle.std.specs.Prelude.{◌⊎◌, option_map}
 use Rattle.csv.specs.Reading.{strip_bom}
 use Rattle.office_base.specs.declared.refusal.Refusal.{Refusal}
+use Rattle.office_access.specs.Settings.{Settings}
+use Rattle.office_gate.specs.InForce.{IsInForceSince}
+use Rattle.office_gate.specs.Sessions.{CameByRights, carried_out, performed, stayed as stayed_by_rights}
 use Rattle.office_rules.specs.Acts.{after as after_acts}
 use Rattle.office_rules.specs.Forms.{AreWellFormed}
+use Rattle.office_rules.specs.Runs.{after_steps}
 use Rattle.office_rules.specs.Sound.{IsSound}
 use Rattle.office_rules.specs.State.{State}
 use Rattle.office_rules.specs.declared.act.Act.{Act}
@@ -14,7 +18,7 @@ use Rattle.office_desk.specs.Fates.{AreContentsAfter}
 use Rattle.office_desk.proofs.Found.{after-append}
 use Rattle.office_desk.specs.Resuming.{AreRunSteps}
 use Rattle.office_desk.specs.Outcomes.{ActsOutcome, all_done, stopped}
-use Rattle.office_commands.proofs.NextService.{formed-append, well_formed_steps}
+use Rattle.office_commands.proofs.NextService.{acts_lead, formed-append, well_formed_steps}
 use Rattle.office_commands.proofs.NextStates.{well_formed_prefix}
 use Rattle.office_desk.proofs.StepFates.{after_run, are_steps, run_steps}
 use Rattle.office_csv.specs.ImportRows.{Fields, parsed_row}
@@ -23,8 +27,8 @@ use Rattle.office_wire.specs.Importing.{ArePrefixRows, AreRowsDone, FitsText, Im
 use Rattle.office_command_line.specs.Orders as command
 use Rattle.office_command_line.specs.Orders.{Command}
 use Rattle.office_commands.specs.CommandActs.{AreActsOf, AreFirstActs, AreFirstRows, act_of, acts_of_rows}
-use Rattle.office_commands.specs.FileHistory.{ActsOfRuns, AreActsOfRun, IsLeftAt, ProgramRun, ReportsContents, StateHistory, led, no_run, one_run, ran_command, ran_service, stayed}
-use Rattle.office_commands.specs.NextCommand.{AreRowsAdded, IsAfterActs, IsLeftBy, IsOneMore, ReadsAt}
+use Rattle.office_commands.specs.FileHistory.{ActsOfRuns, AreActsOfRun, IsLeftAt, ProgramRun, ReportsContents, StateHistory, led, no_run, one_run, ran_command, ran_gate, ran_service, stayed}
+use Rattle.office_commands.specs.NextCommand.{AreRowsAdded, IsAfterActs, IsLeftBy, IsOneMore, IsServedTo, ReadsAt}
 use Rattle.office_commands.specs.declared.exit.Exit.{Exit}
 
 -- acts of this kind lead there
@@ -115,13 +119,22 @@ order_to (command.export file register) text written after exit s u it = reading
 order_to (command.overdue file day n) text written after exit s u it = reading_to written after exit s u it
 order_to (command.certificate file run) text written after exit s u it = reading_to written after exit s u it
 order_to (command.serve file port count) text written after exit s u none = none_to (λ done. done ≡ []) s u refl none.0
+order_to (command.gate file port count access token) text written after exit s u none = none_to (λ done. done ≡ []) s u refl none.0
 order_to (command.plan file) text written after exit s u none = none_to (λ done. done ≡ []) s u refl none.0
 order_to (command.due unit count offset day) text written after exit s u none = none_to (λ done. done ≡ []) s u refl none.0
 order_to command.nothing text written after exit s u none = none_to (λ done. done ≡ []) s u refl none.0
 
+-- what was permitted are acts
+by_rights : (InForce : Settings → Type 0) (s u : State) → CameByRights InForce s u → IsServedTo s u
+by_rights InForce s _ (stayed_by_rights) = acts_lead.still s
+by_rights InForce s _ (performed t settings today name done before in_force formed all) = acts_lead.further s t (after_acts t done) (by_rights InForce s t before) (done, formed, refl)
+by_rights InForce s _ (carried_out t settings name n before in_force may) =
+    acts_lead.further s t (after_steps t n) (by_rights InForce s t before) (run_steps n, well_formed_steps n, sym (after_run n t))
+
 run_to : (run : ProgramRun) (s u : State) → IsLeftAt run s u → LeadsBy (AreActsOfRun run) s u
 run_to (ran_command order text written after exit) s u it = order_to order text written after exit s u it
 run_to (ran_service port count written after exit) s u (done, formed, is) = (done, tt, formed, is)
+run_to (ran_gate first port count written after exit) s u it = let some = by_rights (IsInForceSince first) s u it in (some.0, tt, some.1, some.2)
 
 -- ---- any number of runs
 

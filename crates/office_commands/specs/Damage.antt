@@ -10,12 +10,13 @@ use Rattle.sqlite_wal.specs.Recovery.{Image}
 use Rattle.sqlite.specs.Files.{file_state, over_files}
 use Rattle.sqlite.specs.Held.{Held}
 use Rattle.sqlite.specs.State.{HasCleanDisk}
+use Rattle.office_access.specs.Settings.{Settings}
 use Rattle.office_store.specs.declared.fault.Fault.TheVariants as fault
 use Rattle.office_command_line.specs.Orders.{Command}
-use Rattle.office_commands.specs.Files.{IsLeftShielded, IsOpenedFrom, RunsInFiles, ServesInFiles}
+use Rattle.office_commands.specs.Files.{GatesInFiles, IsLeftShielded, IsOpenedFrom, RunsInFiles, ServesInFiles}
 use Rattle.office_commands.specs.OpenResult.{OpenResult}
 use Rattle.office_commands.specs.Running.{RunEnds}
-use Rattle.office_commands.specs.Serving.{ServiceEnds}
+use Rattle.office_commands.specs.Serving.{GateEnds, ServiceEnds}
 use Rattle.office_commands.specs.declared.exit.Exit.{Exit}
 use Rattle.office_commands.specs.declared.exit.Exit.TheVariants as how
 use Rattle.office_commands.specs.declared.office_files.FilesLeft.{FilesLeft}
@@ -69,4 +70,12 @@ module _ {D : Type 0} {g : Ghosts D} (start : D → List ℕ) (calls : D → Lis
       (image : Image) (opened : OpenResult g) (port count : ℕ) (written after : Option (List ℕ)) (exit : Exit)
       → ServesInFiles left image opened port count written after exit
       → FindsDamage left image opened (λ was last. ServiceEnds over_files port count was last written after exit)
+      written after exit
+
+  -- and each gate
+  abbrev pub GateFindsDamage : FilesLeft D g → Type 0
+  GateFindsDamage left =
+      (image : Image) (opened : OpenResult g) (first : Settings) (port count : ℕ) (written after : Option (List ℕ))
+      (exit : Exit) → GatesInFiles left image opened first port count written after exit
+      → FindsDamage left image opened (λ was last. GateEnds over_files first port count was last written after exit)
       written after exit

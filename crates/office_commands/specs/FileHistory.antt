@@ -14,6 +14,7 @@ use Rattle.sqlite.specs.Held.{Held}
 use Rattle.sqlite.specs.State.{HasCleanDisk}
 use Rattle.sqlite.specs.declared.file.Leftover.{Leftover}
 use Rattle.sqlite.specs.declared.file.Leftover.TheVariants as leftover
+use Rattle.office_access.specs.Settings.{Settings}
 use Rattle.office_rules.specs.Acts.{after}
 use Rattle.office_rules.specs.Forms.{AreWellFormed}
 use Rattle.office_rules.specs.Sound.{IsSound}
@@ -25,11 +26,11 @@ use Rattle.office_life.specs.declared.reports.Remains.{Remains}
 use Rattle.office_life.specs.declared.reports.Remains.TheVariants as remains
 use Rattle.office_command_line.specs.Orders.{Command}
 use Rattle.office_commands.specs.CommandActs.{AreActsOf}
-use Rattle.office_commands.specs.Files.{EndsOver, RunsInFiles, ServesInFiles}
-use Rattle.office_commands.specs.NextCommand.{IsLeftBy, IsServedTo}
+use Rattle.office_commands.specs.Files.{EndsOver, GatesInFiles, RunsInFiles, ServesInFiles}
+use Rattle.office_commands.specs.NextCommand.{IsGatedTo, IsLeftBy, IsServedTo}
 use Rattle.office_commands.specs.OpenResult.{OpenResult}
 use Rattle.office_commands.specs.Running.{RunEnds}
-use Rattle.office_commands.specs.Serving.{ServiceEnds}
+use Rattle.office_commands.specs.Serving.{GateEnds, ServiceEnds}
 use Rattle.office_commands.specs.declared.exit.Exit.{Exit}
 use Rattle.office_commands.specs.declared.office_files.FilesLeft.{FilesLeft}
 use Rattle.office_commands.specs.declared.office_files.FilesLeft.TheVariants as files
@@ -40,6 +41,7 @@ use Rattle.office_commands.specs.declared.office_files.FilesLeft.TheVariants as 
 pub data ProgramRun : Type 0 where
   ran_command : Command → List ℕ → Option (List ℕ) → Option (List ℕ) → Exit → ProgramRun
   ran_service : ℕ → ℕ → Option (List ℕ) → Option (List ℕ) → Exit → ProgramRun
+  ran_gate : Settings → ℕ → ℕ → Option (List ℕ) → Option (List ℕ) → Exit → ProgramRun
 
 -- it was run over files that held this and were opened with that result, and left these
 abbrev pub WasRun : {D : Type 0} {g : Ghosts D} → ProgramRun → Image → OpenResult g → FilesLeft D g → Type 0
@@ -47,6 +49,8 @@ WasRun (ran_command order text written after exit) image opened left =
     RunsInFiles left image opened order (Some text) written after exit
 WasRun (ran_service port count written after exit) image opened left =
     ServesInFiles left image opened port count written after exit
+WasRun (ran_gate first port count written after exit) image opened left =
+    GatesInFiles left image opened first port count written after exit
 
 -- it was killed over files that held this and were opened as the first connection, once its last call had left the
 -- second; it closed nothing, so nothing is said of files that it left
@@ -56,11 +60,14 @@ WasKilled (ran_command order text written after exit) image =
     EndsOver (files.Unopened None) image (λ was last. RunEnds over_files order (Some text) was last written after exit)
 WasKilled (ran_service port count written after exit) image =
     EndsOver (files.Unopened None) image (λ was last. ServiceEnds over_files port count was last written after exit)
+WasKilled (ran_gate first port count written after exit) image =
+    EndsOver (files.Unopened None) image (λ was last. GateEnds over_files first port count was last written after exit)
 
 -- the state at which it leaves an office that was at one
 abbrev pub IsLeftAt : ProgramRun → State → State → Type 0
 IsLeftAt (ran_command order text written after exit) = IsLeftBy order text written after exit
 IsLeftAt (ran_service port count written after exit) = IsServedTo
+IsLeftAt (ran_gate first port count written after exit) = IsGatedTo first
 
 -- ---- what the next run finds
 
@@ -127,10 +134,11 @@ pub data StateHistory (s : State) : List ProgramRun → State → Type 0 where
   led : (runs : List ProgramRun) (run : ProgramRun) (t u : State) → StateHistory s runs t → IsLeftAt run t u
       → StateHistory s (runs ++ run ∷ []) u
 
--- the acts are those of a run; a service did some
+-- the acts are those of a run; a service or a gate did some
 abbrev pub AreActsOfRun : ProgramRun → List Act → Type 0
 AreActsOfRun (ran_command order text written after exit) done = AreActsOf order text done
 AreActsOfRun (ran_service port count written after exit) done = Unit {0}
+AreActsOfRun (ran_gate first port count written after exit) done = Unit {0}
 
 -- the runs did these acts in all, in their order: each did acts of its own, and left the office after them
 pub data ActsOfRuns (s : State) : List ProgramRun → List Act → Type 0 where

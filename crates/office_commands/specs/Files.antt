@@ -15,6 +15,7 @@ use Rattle.sqlite.specs.Files.{AreFoundIn, ExcusesClose, HoldsDatabase, IsClosed
 use Rattle.sqlite.specs.Held.{Held, state}
 use Rattle.sqlite.specs.State.{State as FileState, HasCleanDisk}
 use Rattle.sqlite.specs.declared.file.Leftover.{Leftover}
+use Rattle.office_access.specs.Settings.{Settings}
 use Rattle.office_sql.specs.declared.schema_versions.SchemaVersion.{SchemaVersion}
 use Rattle.office_sql.specs.Office.{IsAtRestOver, IsBlank, IsOfficeIn}
 use Rattle.office_store.specs.declared.fault.Fault.TheVariants as fault
@@ -23,7 +24,7 @@ use Rattle.office_command_line.specs.Orders.{Command}
 use Rattle.office_commands.specs.Applying.{TextEnds}
 use Rattle.office_commands.specs.OpenResult.{OpenResult}
 use Rattle.office_commands.specs.Running.{RunEnds}
-use Rattle.office_commands.specs.Serving.{ServiceEnds}
+use Rattle.office_commands.specs.Serving.{GateEnds, ServiceEnds}
 use Rattle.office_commands.specs.Tables.{SparesTables}
 use Rattle.office_commands.specs.declared.exit.Exit.{Exit}
 use Rattle.office_commands.specs.declared.exit.Exit.TheVariants as how
@@ -125,4 +126,11 @@ abbrev pub ServesInFiles : {D : Type 0} {g : Ghosts D} → FilesLeft D g → Ima
     → Option (List ℕ) → Option (List ℕ) → Exit → Type 0
 ServesInFiles left image opened port count written after exit =
     EndsInFiles left image opened (λ was last. ServiceEnds over_files port count was last written after exit) written
+    after exit
+
+-- the same for the names that a proxy states, with these settings at first
+abbrev pub GatesInFiles : {D : Type 0} {g : Ghosts D} → FilesLeft D g → Image → OpenResult g → Settings → ℕ → ℕ
+    → Option (List ℕ) → Option (List ℕ) → Exit → Type 0
+GatesInFiles left image opened first port count written after exit =
+    EndsInFiles left image opened (λ was last. GateEnds over_files first port count was last written after exit) written
     after exit

@@ -14,6 +14,7 @@ use Rattle.sqlite.specs.Files.{HoldsDatabase, image_of}
 use Rattle.sqlite.specs.State.{State as FileState}
 use Rattle.sqlite.specs.declared.file.Leftover.{Leftover}
 use Rattle.sqlite.specs.declared.file.Leftover.TheVariants as leftover
+use Rattle.office_access.specs.Settings.{Settings}
 use Rattle.office_rules.specs.Acts.{after as after_acts, answers}
 use Rattle.office_rules.specs.Forms.{AreWellFormed}
 use Rattle.office_rules.specs.Runs.{after_steps, open_run, whole}
@@ -31,6 +32,8 @@ use Rattle.office_life.specs.Tables.{ContainTables, IsOfficeAt}
 use Rattle.office_command_line.specs.Orders as command
 use Rattle.office_command_line.specs.Orders.{Command}
 use Rattle.office_command_line.specs.declared.register.Register.TheVariants as register
+use Rattle.office_gate.specs.InForce.{IsInForceSince}
+use Rattle.office_gate.specs.Sessions.{CameByRights}
 use Rattle.office_json.specs.Answers.{answer_lines}
 use Rattle.office_json.specs.Lists.{NoActs, acts_in}
 use Rattle.office_wire.specs.Importing.{AreAllRows, ImportCameTo, ImportEnd, ImportOutcome, IsRowDone, import_result, row_stopped}
@@ -169,6 +172,7 @@ IsLeftBy (command.overdue file day n) text written after exit s u =
 IsLeftBy (command.certificate file run) text written after exit s u =
     ReadsAt (Certifies s.office run written after exit) written after exit s u
 IsLeftBy (command.serve file port count) text written after exit s u = IsUntouched written after s u
+IsLeftBy (command.gate file port count access token) text written after exit s u = IsUntouched written after s u
 IsLeftBy (command.plan file) text written after exit s u = IsUntouched written after s u
 IsLeftBy (command.due unit count offset day) text written after exit s u = IsUntouched written after s u
 IsLeftBy command.nothing text written after exit s u = IsUntouched written after s u
@@ -176,6 +180,10 @@ IsLeftBy command.nothing text written after exit s u = IsUntouched written after
 -- a service leaves an office after some acts
 abbrev pub IsServedTo : State → State → Type 0
 IsServedTo s u = (done : List Act) × AreWellFormed done × (u ≡ after_acts s done)
+
+-- a gate leaves an office where it came by what was permitted alone, under these settings or later ones
+abbrev pub IsGatedTo : Settings → State → State → Type 0
+IsGatedTo first s u = CameByRights (IsInForceSince first) s u
 
 -- ---- what the two files hold then
 

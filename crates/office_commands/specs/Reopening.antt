@@ -10,12 +10,13 @@ use Rattle.sqlite_wal.specs.Reads.{AreClean}
 use Rattle.sqlite_wal.specs.Recovery.{Image}
 use Rattle.sqlite.specs.Files.{file_state, image_of}
 use Rattle.sqlite.specs.Held.{Held}
+use Rattle.office_access.specs.Settings.{Settings}
 use Rattle.office_sql.specs.declared.schema_versions.SchemaVersion.{SchemaVersion}
 use Rattle.office_sql.specs.Office.{IsOfficeIn}
 use Rattle.office_rules.specs.State.{State}
 use Rattle.office_command_line.specs.Orders.{Command}
-use Rattle.office_commands.specs.Files.{ContainedOffice, IsLeftOf, LeavesAnOffice, RunsInFiles, ServesInFiles}
-use Rattle.office_commands.specs.NextCommand.{ContainOffice, ContainWholeOffice, IsLeftBy, IsServedTo, LeavesFilesAt}
+use Rattle.office_commands.specs.Files.{ContainedOffice, GatesInFiles, IsLeftOf, LeavesAnOffice, RunsInFiles, ServesInFiles}
+use Rattle.office_commands.specs.NextCommand.{ContainOffice, ContainWholeOffice, IsGatedTo, IsLeftBy, IsServedTo, LeavesFilesAt}
 use Rattle.office_commands.specs.OpenResult.{OpenResult}
 use Rattle.office_commands.specs.declared.exit.Exit.{Exit}
 use Rattle.office_commands.specs.declared.office_files.FilesLeft.{FilesLeft}
@@ -55,6 +56,14 @@ ServiceLeavesOffice {D} g =
     (opened : OpenResult g) (left : FilesLeft D g)
     → ContainOffice image s → ServesInFiles left image opened port count written after exit
     → LeavesFilesAt image s (IsServedTo s) left
+
+-- and of a gate, which leaves the office where it came by what was permitted alone
+abbrev pub GateLeavesOffice : {D : Type 0} → Ghosts D → Type 0
+GateLeavesOffice {D} g =
+    (image : Image) (s : State) (first : Settings) (port count : ℕ) (written after : Option (List ℕ)) (exit : Exit)
+    (opened : OpenResult g) (left : FilesLeft D g)
+    → ContainOffice image s → GatesInFiles left image opened first port count written after exit
+    → LeavesFilesAt image s (IsGatedTo first s) left
 
 -- an office of which each page has its sum, if the file has sums, is one
 abbrev pub WholeIsOffice : Type 0

@@ -38,6 +38,7 @@ RunEnds g command.nothing text = IsNotRun
 RunEnds g (command.due unit count offset day) text = IsNotRun
 RunEnds g (command.plan file) text = IsNotRun
 RunEnds g (command.serve file port count) text = IsNotRun
+RunEnds g (command.gate file port count access token) text = IsNotRun
 RunEnds g (command.init file) text = Shown g InitEnds
 RunEnds g (command.apply file acts) text = ApplyEnds g text
 RunEnds g (command.import file day csv) text = Shown g (ImportEnds day text)

@@ -67,9 +67,11 @@ fn dispatch<R: Read, W: Write, S: Alter>(
         }
         Order::Resume { .. } => resume_on(alloc, conn, out),
         Order::Certificate { run, .. } => certificate_on(alloc, conn, *run, out),
-        Order::Due { .. } | Order::Plan { .. } | Order::Serve { .. } | Order::Nothing => {
-            (Exit::BadWords, conn)
-        }
+        Order::Due { .. }
+        | Order::Plan { .. }
+        | Order::Serve { .. }
+        | Order::Gate { .. }
+        | Order::Nothing => { (Exit::BadWords, conn) }
     }
 }
 

@@ -1,6 +1,6 @@
 //! Damage of an office's two files is found from their opening on.
 ghost use Rattle.sqlite_disk.specs.Modelled.{calls_of, start_of};
-ghost use Rattle.office_commands.specs.Damage.{CommandFindsDamage, IsCleanOrCollided, ServiceFindsDamage};
+ghost use Rattle.office_commands.specs.Damage.{CommandFindsDamage, GateFindsDamage, IsCleanOrCollided, ServiceFindsDamage};
 
 use crate::office_files::FilesLeft;
 use sqlite_disk::{Calls, Modelled, Start};
@@ -23,7 +23,11 @@ pub fn law_of_found_damage<C: Calls + Drop, S: Start>(left: &FilesLeft<Modelled<
     ensures command { CommandFindsDamage (start_of S.Start) (λ it. C.Calls.history (calls_of it))
         left.now }
 
-    // And of a service.
+    // So did a service.
     ensures service { ServiceFindsDamage (start_of S.Start) (λ it. C.Calls.history (calls_of it))
+        left.now }
+
+    // And a gate.
+    ensures gate { GateFindsDamage (start_of S.Start) (λ it. C.Calls.history (calls_of it))
         left.now }
 {}

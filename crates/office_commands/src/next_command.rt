@@ -2,7 +2,7 @@
 ghost use Rattle.std.specs.Prelude.{IsTrue};
 ghost use Rattle.sqlite_store.specs.FileStore.{view};
 ghost use Rattle.sqlite_trees.specs.View.{IsClean};
-ghost use Rattle.office_commands.specs.Reopening.{ClosedFilesKeepOffice, CrashContainsOffice, ServiceLeavesOffice, WholeIsOffice, CommandLeavesOffice};
+ghost use Rattle.office_commands.specs.Reopening.{ClosedFilesKeepOffice, CommandLeavesOffice, CrashContainsOffice, GateLeavesOffice, ServiceLeavesOffice, WholeIsOffice};
 
 use office_rules::laws::resumption::law_of_resumption;
 use office_rules::laws::soundness::law_of_soundness;
@@ -41,7 +41,10 @@ pub fn law_of_a_killed_command<D: Disk + Drop>(conn: Connection<FileStore<D>>) -
 /// `resume` ended by fault 30, the run is still open. If the office was not opened, nothing was done
 /// and nothing printed, by fault 30 or 31; by 33 only if a certificate in the office is no text, and
 /// by 34 never (`StopsOffice`). A service
-/// ([`crate::serve_opened`] promises `ServesInFiles`) leaves it after some acts (`IsServedTo`).
+/// ([`crate::serve_opened`] promises `ServesInFiles`) leaves it after some acts (`IsServedTo`). A
+/// gate ([`crate::gate_opened`] promises `GatesInFiles`) leaves it where it came by what was
+/// permitted alone (`IsGatedTo`): each act was permitted to the name that signed in, in the office in
+/// which the act was done.
 /// It is so where the command ended and the files were closed, as they read now and after any crash,
 /// and where they could not be closed, after any crash; of a store that the failed closing shut it
 /// is so only if that is numbered, which the database does not say. Files that were not opened hold
@@ -55,6 +58,7 @@ pub fn law_of_a_killed_command<D: Disk + Drop>(conn: Connection<FileStore<D>>) -
 pub fn law_of_each_command<D: Disk + Drop>()
     ensures command { CommandLeavesOffice D.Disk }
     ensures service { ServiceLeavesOffice D.Disk }
+    ensures gate { GateLeavesOffice D.Disk }
     ensures whole { WholeIsOffice }
 {
     law_of_one_database();

@@ -38,8 +38,8 @@ pub enum Body {
 }
 
 impl Body {
-    /// The bytes of the body.
-    pub(crate) fn as_bytes(&self) -> &[u8]
+    /// Returns the bytes of the body.
+    pub fn as_bytes(&self) -> &[u8]
         ensures { result.now ≡ body_bytes self.now }
     {
         match self {

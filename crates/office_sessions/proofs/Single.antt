@@ -4,7 +4,7 @@ use Rattle.std.specs.Prelude.{◌↔◌, IsSome, MatchOption, option_to_list}
 use Rattle.std.proofs.lemmas.List.{length-append}
 use Rattle.sqlite_trees.specs.declared.store.Store.{Ghosts}
 use Rattle.office_desk.specs.Desk.{DeskState}
-use Rattle.office_wire.specs.Connections.{Turns}
+use Rattle.office_wire.specs.Connections.{Turns, TurnsBy}
 use Rattle.office_wire.specs.Exchanges.{AreExchanged, AreServed, IsExchanged, none, one_more}
 use Rattle.office_wire.specs.Sources.{Sent, Traffic}
 use Rattle.office_wire.specs.declared.request_list.SentAnswer.{SentAnswer}
@@ -99,7 +99,7 @@ not_zero n is = omega (arith, is)
 
 -- one connection was awaited
 pub some_served : {S : Type 0} (g : Ghosts S) (n : ℕ) (failed ended : Bool) (old new : DeskState S) → Turns g n failed ended old new → (ended ≡ false → n ≡ 1) → n ≢ 0
-unfolding Turns
+unfolding TurnsBy
 some_served g zero failed ended old new turns all none_so = zero_is_not_one zero refl (all turns.1)
 some_served g (suc n) failed ended old new turns all none_so = not_zero n none_so
 

@@ -69,7 +69,7 @@ sent_gone : (bytes : List ℕ) (unread : Type 0) (it : Option OutgoingReply) (st
 sent_gone bytes unread None status written after request sent = inl (request, sent.0, sent.1)
 sent_gone bytes unread (Some it) status written after request sent = inr (it.is_head, response it.reply, request, sent)
 
-sent_unavailable : (it : Option OutgoingReply) (status : ℕ) (written after : Option (List ℕ)) → ReportsUnavailable it → IsSent it status written after → status ≡ 503
+pub sent_unavailable : (it : Option OutgoingReply) (status : ℕ) (written after : Option (List ℕ)) → ReportsUnavailable it → IsSent it status written after → status ≡ 503
 sent_unavailable None status written after reported sent = absurd reported
 sent_unavailable (Some it) status written after reported sent = sent.1 ∙ ap (λ (s : Status). status_number s) reported
 

@@ -14,3 +14,7 @@ returns-clause-command g c image opened order text written after exit =
 pub returns-clause-service : goal.returns-clause-service
 returns-clause-service g c image opened port count written after exit =
     found (start_of g.S.Start) (λ it. g.C.Calls.history it.calls) (λ _. refl) (λ _. refl) c.args.left.now image opened _ written after exit
+
+pub returns-clause-gate : goal.returns-clause-gate
+returns-clause-gate g c image opened first port count written after exit =
+    found (start_of g.S.Start) (λ it. g.C.Calls.history it.calls) (λ _. refl) (λ _. refl) c.args.left.now image opened _ written after exit

@@ -1,5 +1,6 @@
 use Rattle.std.proofs.Common.{inl, inr, refl}
 use Rattle.office_commands.specs.Serving.{ServiceEnds}
+use Rattle.office_wire.specs.Serving.{LeavesServed}
 use Rattle.office_commands.proofs.Callings.{clean_closed, once_closed, shield_closed}
 use Rattle.office_commands.proofs.Services.{clean_served, desk_of, shield_served}
 use Rattle.office_commands.proofs.Unopened.{unopened}
@@ -14,7 +15,7 @@ returns-in-Ok-clause-ends g c =
 
 pub returns-in-Ok-clause-clean : goal.returns-in-Ok-clause-clean
 returns-in-Ok-clause-clean g c =
-    clean_closed g.S.Store c.args.conn c.serve_at-exit.new.desk.connection c.close.result c.close.ensures.same (λ clean. c.in-Ok.ensures.ok.clean (clean_served g.S.Store c.args.port c.args.count c.in-Ok.desk c.serve_at-exit.new.desk _ _ _ c.serve_at-exit.ensures clean))
+    clean_closed g.S.Store c.args.conn c.serve_at-exit.new.desk.connection c.close.result c.close.ensures.same (λ clean. c.in-Ok.ensures.ok.clean (clean_served (LeavesServed g.S.Store) g.S.Store c.args.port c.args.count c.in-Ok.desk c.serve_at-exit.new.desk _ _ _ c.serve_at-exit.ensures clean))
 
 pub returns-in-Err-clause-ends : goal.returns-in-Err-clause-ends
 returns-in-Err-clause-ends g c = inl (c.in-Err.fault, refl, unopened g.S.Store c.args.conn c.in-Err.fault c.in-Err.conn c.in-Err.ensures.err, refl)
@@ -25,7 +26,7 @@ returns-in-Err-clause-clean g c = c.in-Err.ensures.err.clean
 pub returns-in-Ok-clause-shield : goal.returns-in-Ok-clause-shield
 returns-in-Ok-clause-shield g c =
     shield_closed g.S.Store c.args.conn c.serve_at-exit.new.desk.connection c.close.result c.close.ensures.same
-    (λ shielded. shield_served g.S.Store c.args.port c.args.count c.in-Ok.desk c.serve_at-exit.new.desk _ _ _ c.serve_at-exit.ensures (c.in-Ok.ensures.ok.shield shielded))
+    (λ shielded. shield_served (LeavesServed g.S.Store) g.S.Store c.args.port c.args.count c.in-Ok.desk c.serve_at-exit.new.desk _ _ _ c.serve_at-exit.ensures (c.in-Ok.ensures.ok.shield shielded))
 
 pub returns-in-Err-clause-shield : goal.returns-in-Err-clause-shield
 returns-in-Err-clause-shield g c = c.in-Err.ensures.err.shield

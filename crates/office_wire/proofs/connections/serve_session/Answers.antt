@@ -13,7 +13,7 @@ loop-before-preserved g c =
 pub returns-then-ends_after-clause-all : goal.returns-then-ends_after-clause-all
 returns-then-ends_after-clause-all g c =
     record {
-      turns = rw c.failed_by-has_failed.ensures (one_more _ _ _ _ _ _ _ _ c.loop-before.invariant.turns c.serve_next-served.ensures.turn (rw c.if-ends_after.true at c.ends_after.ensures));
+      turns = rw c.failed_by-has_failed.ensures (one_more _ _ _ _ _ _ _ _ _ c.loop-before.invariant.turns c.serve_next-served.ensures.turn (rw c.if-ends_after.true at c.ends_after.ensures));
       most = omega arith;
       all = search rules;
     }
