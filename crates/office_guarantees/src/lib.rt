@@ -5,7 +5,9 @@
 #![tactic(auto)]
 
 mod reopening;
+mod signed_files;
 mod true_files;
 
 pub use reopening::law_of_reopening;
+pub use signed_files::law_of_signed_files;
 pub use true_files::law_of_true_files;
