@@ -1,0 +1,5 @@
+pub mod Arrived
+pub mod Done
+pub mod Leaves
+pub mod Lines
+pub mod Listed
