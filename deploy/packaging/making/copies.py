@@ -6,7 +6,7 @@ import subprocess
 from types import ModuleType
 
 from making.failing import fail
-from making.listed import DOC, DOC_REPLICAS, REPLICAS, place_of
+from making.listed import DOC_REPLICAS, REPLICAS, SHARE, place_of
 from making.words import TOP
 
 LIST = TOP / "deploy/packaging/copies"
@@ -30,9 +30,9 @@ def git(*words: str, given: bytes = b"") -> bytes:
 
 
 def name_of(source: str) -> str:
-    """Returns the name that office-copies has for a file: its path in the documentation, or in `service/replicas`."""
+    """Returns the name that office-copies has for a file: its path in the package, or in `service/replicas`."""
     if place := place_of(source):
-        return place.removeprefix(f"{DOC}/")
+        return place.removeprefix(f"{SHARE}/")
     if place := place_of(source, REPLICAS):
         return place.replace(DOC_REPLICAS, "service/replicas")
     fail(f"no package has {source}, which deploy/packaging/copies names")

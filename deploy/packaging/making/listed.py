@@ -10,6 +10,9 @@ REPLICAS = "replicas/files"
 """the list of the package office-replicas"""
 DOC = "usr/share/doc/office"
 DOC_REPLICAS = "usr/share/doc/office-replicas"
+SHARE = "usr/share/office"
+SERVICE = ("nginx", "gate", "monitor")
+"""folders of SHARE that lay in the documentation before, in its folder `service`"""
 
 
 class Listed(NamedTuple):

@@ -4,11 +4,13 @@ import re
 from making.words import Word, notes, statuses, table
 
 FILES = [
+    ("/etc/office/NAME.toml", "what the office NAME is, for office-setup"),
     ("/etc/office/NAME.conf", "the port of the office NAME, and its settings"),
     ("/var/lib/office/NAME/office.db", "the office NAME of the service office@NAME, with its log, office.db-wal"),
     ("/var/lib/office-backups/", "copies of the offices, made each night by office-backup@NAME.timer"),
     ("/usr/share/office/web/", "the page for a browser, which a proxy serves"),
-    ("/usr/share/doc/office/", "the pages, and examples of configurations for nginx, logrotate and nftables"),
+    ("/usr/share/office/", "configurations of nginx, the gate, nftables and Prometheus"),
+    ("/usr/share/doc/office/", "the pages, and examples"),
 ]
 ENVIRONMENT = [
     ("OFFICE_DISK", "what the program may assume about the disk: `any`, also if it is not set, or `powersafe`, if the "

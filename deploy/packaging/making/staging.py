@@ -9,7 +9,7 @@ import subprocess
 from making import copies, manual
 from making.changelog import Version, debian
 from making.failing import fail
-from making.listed import DOC, DOC_REPLICAS, FILES, HERE, REPLICAS, listed
+from making.listed import DOC, DOC_REPLICAS, FILES, HERE, REPLICAS, SERVICE, SHARE, listed
 from making.words import TOP, table
 
 UNITS = "lib/systemd/system"
@@ -111,11 +111,17 @@ def put_link(file: pathlib.Path, link: pathlib.Path) -> None:
 
 
 def put_links(top: pathlib.Path) -> None:
-    """Puts a link at the path of the repository by which pages name a file, and one where a tool was before."""
+    """Puts a link at the path of the repository by which pages name a file, and one where a file or a tool was before."""
+    services = [top / SHARE / it for it in SERVICE]
     for source, folder, name in listed():
         file, link = top / folder / name, top / DOC / source.relative_to(TOP)
-        if file.is_relative_to(top / DOC) and link != file:
+        is_service = any(file.is_relative_to(it) for it in services)
+        if (file.is_relative_to(top / DOC) or is_service) and link != file:
             put_link(file, link)
+        if is_service:
+            # a link for each file: dpkg puts none in the place of a folder
+            for it in files_below(file):
+                put_link(it, top / DOC / "service" / it.relative_to(top / SHARE))
     for tool in TOOLS:
         put_link(top / "usr/bin" / f"office-{tool}", top / DOC / "tools" / tool)
 
