@@ -63,8 +63,23 @@ def shuffled(folder: pathlib.Path, take: Callable[[pathlib.Path], tuple[int, str
     status, told, _ = take(place)
     same("a mail that was marked as read since is not filed again", (status, told.count("refused 4"), titles()),
          (1, 1, [f"Mail {it}" for it in sorted(seen)]))
+    forged(place, take, titles, same)
     journal = json.loads(place.with_name("mails.intake.json").read_text())
     same("the journal is of the form that has mails", sorted(journal), ["aggregations", "mails"])
+
+
+def forged(place: pathlib.Path, take: Callable[[pathlib.Path], tuple[int, str, str]], titles: Callable[[], list[str]],
+           same: Callable[..., object]) -> None:
+    """Mails with one Message-ID: none of other bytes goes in silence."""
+    first, marked = mail(91), mail(91).replace(b"\n\n", b"\nStatus: RO\nX-Keywords: seen\n\n", 1)
+    subject, text = first.replace(b"Subject: Mail 91", b"Subject: Other 91"), first.replace(b"Letter 91", b"Reply 91").replace(b"Mail", b"Text")
+    (place / "in.mbox").write_bytes(b"".join(START + each + b"\n" for each in (first, marked, subject, text)))
+    (place / "old.mbox").write_bytes(b"")
+    status, answers, errors = take(place)
+    same("one with another text is filed too, one with marks is the same mail", ({"Mail 91", "Text 91", "Other 91"} & set(titles()),
+         answers.count("in.mbox mail 2: the same mail as in.mbox mail 1")), ({"Mail 91", "Text 91"}, 1))
+    same("and one with another header is named", (status, [line for line in errors.splitlines() if line.startswith("left out: ")]), (1, [
+        "left out: in.mbox mail 3: it has the Message-ID and the text of in.mbox mail 1, and another header: the other is taken"]))
 
 
 def act_of(number: int, place: int, aggregation: int) -> dict:

@@ -32,12 +32,12 @@ class Office(Protocol):
 
 
 def line_of(act: Act) -> str:
-    """An act as one line of JSON."""
+    """Returns an act as one line of JSON."""
     return json.dumps(act, ensure_ascii=False, separators=(",", ":"))
 
 
 def listed(lines: list[str]) -> str:
-    """A list of acts, each in a line of its own."""
+    """Returns a list of acts, each in a line of its own."""
     return "[\n" + ",\n".join(lines) + "\n]\n"
 
 

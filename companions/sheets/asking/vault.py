@@ -45,7 +45,7 @@ def place_of(name: str) -> str:
 
 
 def manifest(digest: str, length: int, name: str) -> bytes:
-    """The text that names a file of the vault."""
+    """Returns the text that names a file of the vault."""
     return Named(digest, length, place_of(name)).text().encode()
 
 

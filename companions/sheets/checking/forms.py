@@ -33,7 +33,7 @@ FORMS = {
 
 
 def shown(value: object) -> str:
-    """A value as JSON writes it, cut where it is long."""
+    """Returns a value as JSON writes it, cut where it is long."""
     text = json.dumps(value, ensure_ascii=False)
     return text if len(text) <= 70 else text[:67] + "..."
 
@@ -113,7 +113,7 @@ def number_why(value: object) -> str:
 
 
 def limit_of(unit: object) -> int | None:
-    """The largest count of a unit, none where there is no such unit."""
+    """Returns the largest count of a unit, none where there is no such unit."""
     return act_forms.LONGEST.get(unit) if isinstance(unit, str) else None
 
 

@@ -45,7 +45,7 @@ def ordinal(number: int) -> str:
 
 
 def acts_in(data: bytes) -> list[Act]:
-    """The items of the list that the bytes are."""
+    """Returns the items of the list that the bytes are."""
     if data.startswith(codecs.BOM_UTF8):
         raise NoList("the file begins with a byte order mark: save it as UTF-8 without one (in Notepad, UTF-8 and not "
                      "UTF-8 with BOM)")
@@ -76,7 +76,7 @@ def json_why(fault: BaseException | None) -> str:
 
 
 def lines_of(text: str, count: int) -> list[int]:
-    """The line in which each item of a list begins; the text is a list with so many items."""
+    """Returns the line in which each item of a list begins; the text is a list with so many items."""
     decoder = json.JSONDecoder()
     at, line, found = text.index("[") + 1, 1, []
     done = 0
@@ -124,7 +124,7 @@ def faults_of(act: Act) -> list[str]:
 
 
 def parts_of(kind: str) -> dict[str, Part]:
-    """The members of a kind of act beside `act`, each with what says its refusal."""
+    """Returns the members of a kind of act beside `act`, each with what says its refusal."""
     return act_forms.ACTS[kind]
 
 
@@ -154,7 +154,7 @@ def late_why(act: Act, today: datetime.date) -> str | None:
 
 
 def back_whys(acts: list[Act]) -> list[str]:
-    """The acts whose day is before that of one above: the office refuses these, once that one is done."""
+    """Returns the acts whose day is before that of one above: the office refuses these, once that one is done."""
     latest, above, found = "", -1, []
     for act in acts:
         day = act.value.get("day") if isinstance(act.value, dict) else None

@@ -12,7 +12,7 @@ EXIF_POINTER = 0x8769
 
 
 def picture_day(data: bytes) -> datetime.date | None:
-    """The day on which a picture was taken, by the EXIF of a JPEG; none where there is none."""
+    """Returns the day on which a picture was taken, by the EXIF of a JPEG; none where there is none."""
     if not data.startswith(b"\xff\xd8"):
         return None
     at = 2
@@ -28,7 +28,7 @@ def picture_day(data: bytes) -> datetime.date | None:
 
 
 def exif_day(tiff: bytes) -> datetime.date | None:
-    """The first of its days: when it was taken, when it was digitized, when it was changed."""
+    """Returns the first of its days: when it was taken, when it was digitized, when it was changed."""
     order = {b"II": "<", b"MM": ">"}.get(tiff[:2])
     if order is None or len(tiff) < 8:
         return None
@@ -46,7 +46,7 @@ def exif_day(tiff: bytes) -> datetime.date | None:
 
 
 def entries(tiff: bytes, at: int, order: str) -> dict[int, int]:
-    """The entries of a directory: a number, or where the value is, under each tag."""
+    """Returns the entries of a directory: a number, or where the value is, under each tag."""
     count = struct.unpack(order + "H", tiff[at:at + 2])[0]
     found = {}
     for n in range(count):

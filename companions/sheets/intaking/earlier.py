@@ -2,7 +2,6 @@
 from __future__ import annotations
 
 import hashlib
-import io
 import json
 import re
 from dataclasses import dataclass, field
@@ -25,7 +24,7 @@ class Earlier:
     known: dict[str, dict[str, str]] = field(default_factory=dict)
 
     def refs(self, form: str) -> dict[str, str]:
-        """The refs of one form, by the digest of each record's content."""
+        """Returns the refs of one form, by the digest of each record's content."""
         if form not in self.known:
             pattern = re.compile(re.escape(form).replace(re.escape(PLACE), "[0-9]{5}"))
             self.known[form] = {self.digest(number): ref for ref, number in self.numbers.items() if pattern.fullmatch(ref)}
@@ -42,13 +41,14 @@ class Earlier:
 
     def take(self, record: Record) -> str | None:
         """Gives a mail the ref that it has already, if it has one, and returns that."""
-        data = record.document.data()
-        digests = {hashlib.sha256(data).hexdigest()}
+        with record.document.opened() as file:
+            digest, length = digest_of(file)
+        digests = {digest}
         found = self.refs(record.earlier)
-        if len(data) > LONGEST_CONTENT:
+        if length > LONGEST_CONTENT:
             # the text that names a large file has its place as well
             names = [f"{record.document.path.stem}-{int(ref[-5:])}.eml" for ref in found.values() if ref[-5:].isdigit()]
-            digests = {hashlib.sha256(manifest(*digest_of(io.BytesIO(data)), name)).hexdigest() for name in names}
+            digests = {hashlib.sha256(manifest(digest, length, name)).hexdigest() for name in names}
         ref = next((found[it] for it in digests if it in found), None)
         if ref is not None:
             record.keep(ref)

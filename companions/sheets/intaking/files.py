@@ -3,14 +3,14 @@ from __future__ import annotations
 
 import functools
 import io
-import mailbox
 import os
 import pathlib
 import time
 from collections.abc import Iterator
 from dataclasses import dataclass
-from typing import BinaryIO
+from typing import BinaryIO, NamedTuple, cast
 
+from intaking.boxes import Box, Part, box_in
 from intaking.dated import HEAD
 
 
@@ -33,6 +33,18 @@ def state_of(path: pathlib.Path) -> State:
     return State(seen.st_size, seen.st_mtime_ns, seen.st_ctime)
 
 
+class Left(NamedTuple):
+    """A file or a mail that is not filed: its name, why, where it is, and whether a later call may file it as it is."""
+
+    name: str
+    why: str
+    path: pathlib.PurePosixPath
+    is_for_later: bool = False
+
+    def __str__(self) -> str:
+        return f"{self.name}: {self.why}"
+
+
 def printed(path: pathlib.PurePosixPath) -> str:
     return str(path).encode("utf-8", "backslashreplace").decode()
 
@@ -47,44 +59,47 @@ class Document:
     mail: int | None = None
 
     def name(self) -> str:
-        """Its name, as each terminal can print it."""
+        """Returns its name, as each terminal can print it."""
         return printed(self.path) + ("" if self.mail is None else f" mail {self.mail}")
 
     def file(self) -> pathlib.Path:
         return self.root / self.path
 
     def is_changed(self) -> bool:
-        """Whether the file has changed since it was first seen."""
+        """Returns whether the file has changed since it was first seen."""
         now = state_of(self.file())
         return (now.size, now.modified) != (self.state.size, self.state.modified)
 
     def data(self) -> bytes:
-        if self.mail is None:
-            return self.file().read_bytes()
-        return box_of(self.file()).get_bytes(self.mail - 1)
+        """Returns all of its bytes, which must be few."""
+        with self.opened() as file:
+            return file.read()
 
     def opened(self) -> BinaryIO:
-        """Opens it for reading, so that a large file is not read whole."""
-        return io.BytesIO(self.data()) if self.mail is not None else self.file().open("rb")
+        """Opens it for reading, so that a large one is not read whole."""
+        if self.mail is None:
+            return self.file().open("rb")
+        return cast(BinaryIO, io.BufferedReader(Part(self.file(), box_of(self.file()).mails[self.mail - 1])))
 
     def size(self) -> int:
-        return len(self.data()) if self.mail is not None else self.state.size
+        if self.mail is None:
+            return self.state.size
+        span = box_of(self.file()).mails[self.mail - 1]
+        return span.end - span.start
 
     def head(self) -> bytes:
-        if self.mail is not None:
-            return self.data()[:HEAD]
-        with self.file().open("rb") as file:
+        with self.opened() as file:
             return file.read(HEAD)
 
 
 @functools.cache
-def box_of(path: pathlib.Path) -> mailbox.mbox:
-    """A mailbox, whose mails are looked for once."""
-    return mailbox.mbox(path, create=False)
+def box_of(path: pathlib.Path) -> Box:
+    """Returns a mailbox, whose mails are looked for once."""
+    return box_in(path)
 
 
-def documents(root: pathlib.Path, left: list[str]) -> Iterator[Document]:
-    """All files below a folder, by their names; links are not followed. A mailbox is its mails.
+def documents(root: pathlib.Path, left: list[Left]) -> Iterator[Document]:
+    """Returns all files below a folder, by their names; links are not followed. A mailbox is its mails.
 
     What cannot be looked at gets a line of `left`.
     """
@@ -97,8 +112,14 @@ def documents(root: pathlib.Path, left: list[str]) -> Iterator[Document]:
             inside = pathlib.PurePosixPath(path.relative_to(root).as_posix())
             try:
                 state = state_of(path)
-                count = len(box_of(path)) if path.suffix.lower() == ".mbox" else None
-            except (OSError, mailbox.Error, ValueError) as why:
-                left.append(f"{printed(inside)}: it cannot be read: {why.__class__.__name__}")
+                box = box_of(path) if path.suffix.lower() == ".mbox" else None
+            except (OSError, ValueError) as why:
+                left.append(Left(printed(inside), f"it cannot be read: {why.__class__.__name__}", inside, True))
                 continue
-            yield from (Document(root, inside, state, at) for at in ((None,) if count is None else range(1, count + 1)))
+            if box is None:
+                yield Document(root, inside, state)
+                continue
+            if box.before:
+                left.append(Left(printed(inside), f"{box.before:,} bytes are no mail, since each begins with a line From "
+                                 f"({len(box.mails)} mails are looked at)", inside))
+            yield from (Document(root, inside, state, at) for at in range(1, len(box.mails) + 1))

@@ -14,6 +14,10 @@ class Unusable(Exception):
     """What was asked for cannot be done; the text says why."""
 
 
+class Unsettled(Unusable):
+    """A file may still change, so a later call can file it."""
+
+
 @dataclass(frozen=True)
 class Aggregation:
     """An aggregation that a folder goes into; without a title it is there already, and is not added."""
@@ -61,5 +65,5 @@ def by_table(table: pathlib.Path) -> dict[str, Aggregation]:
 
 
 def home_of(folder: pathlib.PurePosixPath, homes: dict[str, Aggregation]) -> Aggregation | None:
-    """The aggregation of a folder: its own, else that of the nearest folder above which has one."""
+    """Returns the aggregation of a folder: its own, else that of the nearest folder above which has one."""
     return next((homes[str(at)] for at in [folder, *folder.parents] if str(at) in homes), None)

@@ -6,13 +6,16 @@ import datetime
 import email.header
 import email.parser
 import email.policy
-import email.utils
 import hashlib
+import os
 import re
 from dataclasses import dataclass
+from typing import BinaryIO
 
-# a title has 200 bytes, a moment fewer: more of them is not read
-LONGEST_SUBJECT, LONGEST_DATE = 2_000, 200
+from intaking.moments import stated_in
+
+# a title has 200 bytes: more of a subject is not read
+LONGEST_SUBJECT = 2_000
 # the names that Python has for the encodings of text that mails use; others than these may be no text, or half of it
 CHARSETS = frozenset((
     "ascii", "utf-8", "big5", "big5hkscs", "cp437", "cp850", "cp852", "cp866", "cp874", "cp932", "cp949", "cp950",
@@ -20,7 +23,11 @@ CHARSETS = frozenset((
     "koi8-u", "mac-roman", "shift_jis", "tis-620", *(f"cp{it}" for it in range(1250, 1259)),
     *(f"iso8859-{it}" for it in range(1, 17) if it != 12)))
 FAR = datetime.timedelta(days=2)
-BLANK = re.compile(rb"\r?\n\r?\n")
+BLANK = re.compile(rb"\n\r?\n")
+PIECE = 1_048_576
+# what mail programs write into a mail that they keep
+MARKS = frozenset(("status", "x-status", "x-keywords", "x-uid", "x-imap", "x-imapbase", "x-mozilla-status", "x-mozilla-status2",
+                   "x-mozilla-keys", "x-gmail-labels", "content-length", "lines"))
 
 
 @dataclass(frozen=True)
@@ -30,38 +37,47 @@ class Mail:
     sent: datetime.date | None
     received: datetime.date | None
     subject: str
+    # the moment is in UTC, so the day may be another where the mail was written
+    is_sent_in_utc: bool = False
+    is_received_in_utc: bool = False
 
     def is_doubtful(self) -> bool:
-        """Whether the sender's day is far from that of the server."""
+        """Returns whether the sender's day is far from that of the server."""
         return self.sent is not None and self.received is not None and abs(self.sent - self.received) > FAR
 
 
-def fields_of(data: bytes) -> dict[str, str]:
-    """The first field of each name in the header, in one line; none if no reader of mails understands it."""
-    fields: dict[str, str] = {}
+def items_of(data: bytes) -> list[tuple[str, str]]:
+    """Returns the fields of the header, each in one line; those that were read if no reader of mails understands the others."""
+    items: list[tuple[str, str]] = []
     try:
-        head = email.parser.BytesHeaderParser(policy=email.policy.compat32).parsebytes(data)
+        header = BLANK.split(data, maxsplit=1)[0] + b"\n"
+        head = email.parser.BytesHeaderParser(policy=email.policy.compat32).parsebytes(header)
         for name, text in head.raw_items():
             # bytes that are no ASCII are taken for UTF-8, as many programs write them
             plain = text.encode("utf-8", "surrogateescape").decode("utf-8", "replace")
-            fields.setdefault(name.lower(), " ".join(plain.splitlines()))
+            items.append((name.lower(), " ".join(plain.splitlines())))
     except Exception:  # the parser may raise anything: such a header has the fields that were read before
-        return fields
-    return fields
+        return items
+    return items
 
 
-def mail_of(data: bytes) -> Mail:
-    """The days and the subject of a mail, by its header: each day is that of its own time zone. It never raises."""
+def fields_of(data: bytes) -> dict[str, str]:
+    """The first field of each name in the header."""
+    return dict(reversed(items_of(data)))
+
+
+def unmarked(data: bytes) -> list[tuple[str, str]]:
+    """The fields of the header but for what mail programs write into it."""
+    return [(name, text) for name, text in items_of(data) if name not in MARKS]
+
+
+def mail_of(data: bytes, zone: datetime.tzinfo | None = None) -> Mail:
+    """The days and the subject of a mail, by its header: each day is that in a zone, else in its own. It never raises."""
     fields = fields_of(data)
-    received = fields.get("received", "").rpartition(";")[2]
-    return Mail(day_in(fields.get("date", "")), day_in(received), subject_of(fields.get("subject", "")))
-
-
-def day_in(text: str) -> datetime.date | None:
-    try:
-        return email.utils.parsedate_to_datetime(text[:LONGEST_DATE]).date()
-    except Exception:  # a moment that is none raises whatever its digits lead to
-        return None
+    sent = stated_in(fields.get("date", ""), zone)
+    received = stated_in(fields.get("received", "").rpartition(";")[2], zone)
+    return Mail(sent and sent.day, received and received.day, subject_of(fields.get("subject", "")),
+                bool(sent and sent.in_utc), bool(received and received.in_utc))
 
 
 def subject_of(text: str) -> str:
@@ -82,13 +98,40 @@ def charset_of(name: str | None) -> str:
     return found if found in CHARSETS else "latin-1"
 
 
-def identity_of(data: bytes) -> str:
+def identity_of(head: bytes, file: BinaryIO) -> str:
     """What makes a mail that mail wherever it lies: its Message-ID and its body, without the first all of its bytes.
 
     Mail programs write marks into a header, as that it was read. The body is there because two mails may have one
     Message-ID, and none may keep another from being filed.
     """
-    own = fields_of(data).get("message-id", "").strip()
-    body = BLANK.split(data, maxsplit=1)[-1]
-    whole = own.encode() + b"\0" + body if own else data
-    return hashlib.sha256(whole.rstrip(b"\r\n")).hexdigest()[:16]
+    own = fields_of(head).get("message-id", "").strip().encode()
+    start, end = (body_start(file) if own else 0), text_end(file)
+    digest = hashlib.sha256(own + b"\0" if own else b"")
+    file.seek(start)
+    while start < end and (piece := file.read(min(PIECE, end - start))):
+        digest.update(piece)
+        start += len(piece)
+    return digest.hexdigest()[:16]
+
+
+def body_start(file: BinaryIO) -> int:
+    """Where the body of a mail begins: behind its first empty line, or with the mail if it has none."""
+    at, last = file.seek(0), b""
+    while piece := file.read(PIECE):
+        if blank := BLANK.search(last + piece):
+            return at - len(last) + blank.end()
+        at += len(piece)
+        last = piece[-2:]
+    return 0
+
+
+def text_end(file: BinaryIO) -> int:
+    """Where a mail ends but for the ends of lines behind it."""
+    end = file.seek(0, os.SEEK_END)
+    while end:
+        start = max(0, end - PIECE)
+        file.seek(start)
+        if text := file.read(end - start).rstrip(b"\r\n"):
+            return start + len(text)
+        end = start
+    return 0

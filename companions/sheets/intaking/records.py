@@ -9,9 +9,11 @@ from dataclasses import dataclass
 from asking.sending import NotMade
 from asking.vault import NotPut, Vault
 from intaking.dated import named_day, picture_day
+from intaking.ends import is_on_the_way, is_written, lacking_end
 from intaking.files import Document
-from intaking.folders import Aggregation, Unusable, home_of
-from intaking.mails import Mail, identity_of, mail_of
+from intaking.folders import Aggregation, Unsettled, Unusable, home_of
+from intaking.mails import Mail, identity_of, mail_of, unmarked
+from intaking.moments import day_at
 from office_common.facts import LONGEST_CONTENT
 from spreadsheet.cells import CONTROL, LONGEST_TEXT
 from spreadsheet.members import Pending
@@ -31,6 +33,9 @@ class Asked:
     vault: Vault | None = None
     settle: float = 60
     by_received: bool = False
+    zone: datetime.tzinfo | None = None
+    # what lacks the end of its kind is a record too
+    with_cut: bool = False
 
 
 @dataclass
@@ -45,6 +50,8 @@ class Record:
     earlier: str = ""
     place: str = ""
     remark: str = ""
+    # its day is that of UTC, which its mail names, and no zone was asked for
+    is_in_utc: bool = False
 
     def needs(self) -> list[str]:
         return [it.ref for it in self.act.values() if isinstance(it, Pending)]
@@ -54,11 +61,15 @@ class Record:
         act = {name: numbers[it.ref] if isinstance(it, Pending) else it for name, it in self.act.items()}
         try:
             content = self.content()
-            if self.document.is_changed():
+            if self.document.is_changed() or is_written(self.document.file()):
                 raise NotMade(CHANGING)
         except (OSError, NotPut, LookupError) as why:
             raise NotMade(CHANGING if isinstance(why, LookupError) else str(why)) from why
         return {**act, "content": base64.b64encode(content).decode()}
+
+    def is_same_mail(self, other: Record) -> bool:
+        """Whether a mail with the Message-ID and the body of another has its header too, but for marks."""
+        return unmarked(self.document.head()) == unmarked(other.document.head())
 
     def keep(self, ref: str) -> None:
         """Gives a mail the ref that an earlier version gave it, by its place then, which a file of the vault is named by."""
@@ -67,7 +78,7 @@ class Record:
             self.place = f"{self.document.path.stem}-{int(ref[-5:])}.eml"
 
     def content(self) -> bytes:
-        """The bytes of the document; of a large one the text that names it in the vault."""
+        """Returns the bytes of the document; of a large one the text that names it in the vault."""
         if self.vault is None or self.document.size() <= LONGEST_CONTENT:
             return self.document.data()
         return self.vault.put(self.document.opened, self.place)
@@ -77,7 +88,7 @@ CHANGING = "it is still changing: the next call files it"
 
 
 def text_of(text: str) -> str:
-    """A text as a title may be: in one line, without control characters, and cut where it is too long."""
+    """Returns a text as a title may be: in one line, without control characters, and cut where it is too long."""
     plain = CONTROL.sub(" ", " ".join(text.split())).strip()
     return plain.encode(errors="replace")[:LONGEST_TEXT].decode(errors="ignore").strip()
 
@@ -96,19 +107,32 @@ def check(document: Document, asked: Asked) -> None:
     """Refuses what is too large, or may still be written."""
     settled = document.state.settled_for()
     if settled < asked.settle:
-        raise Unusable(f"{CHANGING} (its last change was {settled:.0f} seconds ago, and --settle is {asked.settle:g})"
+        raise Unsettled(f"{CHANGING} (its last change was {settled:.0f} seconds ago, and --settle is {asked.settle:g})"
                        if settled >= 0 else f"its last change is {-settled:.0f} seconds after now: set the clock, or touch it")
+    if is_written(document.file()):
+        raise Unsettled(f"{CHANGING} (a program has it open for writing)")
     size = document.size()
     if size > LONGEST_CONTENT and asked.vault is None:
         raise Unusable(too_large(size))
+    if document.mail is None and not asked.with_cut:
+        check_end(document)
+
+
+def check_end(document: Document) -> None:
+    """Refuses what a program has not written to its end, however long ago it wrote last."""
+    if is_on_the_way(document.path.name):
+        raise Unusable("its name is that of a hidden file, or of one on its way: rename it once it is whole, or --cut takes it")
+    with document.opened() as file:
+        if lack := lacking_end(file, document.size()):
+            raise Unusable(f"{lack}: --cut takes it as it is")
 
 
 def day_of(document: Document, mail: Mail, fields: dict[str, str], asked: Asked) -> datetime.date:
-    """The day of a document, by what it says of itself."""
+    """Returns the day of a document, by what it says of itself."""
     by_mail = (mail.received if asked.by_received else None) or mail.sent
     day = by_mail or picture_day(document.head()) or named_day(fields)
     if day is None and asked.by_change and document.mail is None:
-        day = datetime.date.fromtimestamp(document.state.modified / 1e9)
+        day = day_at(document.state.modified / 1e9, asked.zone)
     if day is None:
         raise Unusable("it has no day: no header of a mail, no EXIF, no day in its name by --pattern; --changed takes the "
                        "day of its last change")
@@ -133,23 +157,25 @@ def checked_ref(ref: str) -> str:
 
 
 def record_of(document: Document, homes: dict[str, Aggregation], numbers: dict[str, int], asked: Asked) -> Record:
-    """A document as a record; where it cannot be one, that is why it is left out."""
+    """Returns a document as a record; where it cannot be one, that is why it is left out."""
     home = home_of(document.path.parent, homes)
     if home is None:
         raise Unusable("its folder is in no row of the table")
     check(document, asked)
     is_mail = document.mail is not None or document.path.suffix.lower() == ".eml"
-    mail = mail_of(document.head()) if is_mail else Mail(None, None, "")
-    identity = identity_of(document.data()) if document.mail is not None else ""
+    head = document.head() if is_mail else b""
+    mail = mail_of(head, asked.zone)
+    identity = identified(document, head) if document.mail is not None else ""
     fields = fields_of(document, home, asked, f"mail-{identity}")
     day = day_of(document, mail, fields, asked)
     ref = checked_ref(ref_of(asked, fields, day))
     if document.is_changed():
-        raise Unusable(CHANGING)
+        raise Unsettled(CHANGING)
     act: dict[str, object] = {
         "act": "add-record", "day": asked.day, "ref": ref, "title": text_of(mail.subject) or text_of(fields["stem"]),
         "originated": day.isoformat(), "aggregation": numbers.get(home.ref, Pending(home.ref)), "class": None, "schedule": None}
-    record = Record(document, act, asked.vault, identity, place=document.path.name)
+    in_utc = mail.is_received_in_utc if asked.by_received and mail.received else mail.is_sent_in_utc
+    record = Record(document, act, asked.vault, identity, place=document.path.name, is_in_utc=in_utc)
     if identity:
         stem = document.path.stem
         record.earlier = ref_of(asked, fields_of(document, home, asked, f"{stem}/{PLACE}"), day)
@@ -158,6 +184,12 @@ def record_of(document: Document, homes: dict[str, Aggregation], numbers: dict[s
         record.remark = (f"by its sender it is of {mail.sent}, and it was received on {mail.received}: --mail-day received "
                          "takes that day")
     return record
+
+
+def identified(document: Document, head: bytes) -> str:
+    """What makes a mail of a mailbox that mail."""
+    with document.opened() as file:
+        return identity_of(head, file)
 
 
 def too_large(size: int) -> str:

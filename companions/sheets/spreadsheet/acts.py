@@ -35,11 +35,11 @@ class ActRow:
     act: dict[str, object]
 
     def needs(self) -> list[str]:
-        """The refs of the aggregations whose numbers it waits for."""
+        """Returns the refs of the aggregations whose numbers it waits for."""
         return [it.ref for it in self.act.values() if isinstance(it, Pending)]
 
     def made(self, numbers: dict[str, int]) -> dict[str, object]:
-        """The act, with the numbers that the office gave."""
+        """Returns the act, with the numbers that the office gave."""
         return {name: numbers[it.ref] if isinstance(it, Pending) else it for name, it in self.act.items()}
 
 
@@ -84,7 +84,7 @@ class ActTurner:
         self.seen: dict[tuple[object, ...], int] = {}
 
     def all(self, rows: list[Row]) -> ActFindings:
-        """All rows; what they add is to be gathered before, from this sheet and from others."""
+        """Returns all rows; what they add is to be gathered before, from this sheet and from others."""
         found = ActFindings()
         filled = [it for it in rows if not it.is_empty()]
         found.empty = len(rows) - len(filled)
@@ -107,13 +107,13 @@ class ActTurner:
                 self.things.added["aggregation"].add(self.cell(row, "ref"))
 
     def days(self) -> tuple[str, ...]:
-        """The columns that hold days."""
+        """Returns the columns that hold days."""
         return DAYS
 
     # ---- cells
 
     def cell(self, row: Row, name: str) -> str:
-        """A cell without the spaces around it; one that the row has not is empty."""
+        """Returns a cell without the spaces around it; one that the row has not is empty."""
         if name in self.columns.values:
             return self.columns.values[name]
         at = self.columns.places.get(name, len(row.cells))
@@ -127,7 +127,7 @@ class ActTurner:
         return f"row {row.number}" if at is None else place(at, row.number)
 
     def kind_of(self, row: Row) -> str | None:
-        """The kind of a row: of a plan it has a column of its own."""
+        """Returns the kind of a row: of a plan it has a column of its own."""
         return word_named("act", self.cell(row, "act")) if self.kind == "plan" else self.kind
 
     def day(self, name: str, cell: str) -> datetime.date:
@@ -200,7 +200,7 @@ class ActTurner:
             self.wrong(row, name, why, found)
 
     def shown_at(self, row: Row, name: str) -> str:
-        """The column whose cell is the value of a member: that of the ref where the row has that alone."""
+        """Returns the column whose cell is the value of a member: that of the ref where the row has that alone."""
         others = {"record": ["ref"], "aggregation": ["ref"], "target": list(self.columns.form.either)}.get(name, [])
         there = [it for it in [name, *others] if it in self.columns.places or it in self.columns.values]
         return next((it for it in there if self.cell(row, it)), there[0] if there else name)
@@ -212,7 +212,7 @@ class ActTurner:
         found.said.append(f"{self.where(row, at)} ({at}): {in_quotes(cell) + ' ' if cell else ''}{why}")
 
     def is_left(self, row: Row, found: ActFindings) -> bool:
-        """Whether a row is not to be confirmed: it says no, or nothing."""
+        """Returns whether a row is not to be confirmed: it says no, or nothing."""
         cell = self.cell(row, "decision")
         word = word_named("decision", cell)
         if word == "no":

@@ -29,7 +29,7 @@ class Wrong(Exception):
 
 
 def text_of(cell: str) -> str:
-    """A ref or a title."""
+    """Returns a ref or a title."""
     if not cell:
         raise Wrong("empty", "the cell is empty")
     if cell in FORMULA_ERRORS or re.fullmatch("#{3,}", cell):
@@ -45,7 +45,7 @@ def text_of(cell: str) -> str:
 
 
 def in_one_line(cell: str) -> str:
-    """A cell with one space in place of each line break, and of the spaces around it."""
+    """Returns a cell with one space in place of each line break, and of the spaces around it."""
     return " ".join(part.strip(" \t") for part in LINE_BREAK.split(cell))
 
 
@@ -61,7 +61,7 @@ def note_of(cell: str) -> tuple[str, str] | None:
 
 
 def number_of(cell: str) -> str:
-    """The number of an aggregation."""
+    """Returns the number of an aggregation."""
     if not cell:
         why = "the cell is empty: write the number of the aggregation, which `office apply` printed"
         raise Wrong("numberless", why)
@@ -74,7 +74,7 @@ def number_of(cell: str) -> str:
 
 
 def code_of(cell: str) -> str:
-    """The code of a class or of a schedule, or none."""
+    """Returns the code of a class or of a schedule, or none."""
     if cell and not re.fullmatch("[A-Za-z0-9-]+", cell):
         raise Wrong("code", "is not a code: a code has only ASCII letters, digits and hyphens")
     if len(cell) > LONGEST_CODE:
@@ -89,7 +89,7 @@ def too_long(what: str, length: int) -> Wrong:
 
 
 def content_of(cell: str) -> str:
-    """The base64 of a content as the office reads it. Line breaks and spaces in it are passed over."""
+    """Returns the base64 of a content as the office reads it. Line breaks and spaces in it are passed over."""
     joined = "".join(cell.split())
     try:
         content = base64.b64decode(joined, validate=True)
@@ -105,7 +105,7 @@ def content_of(cell: str) -> str:
 
 
 def is_file(path: pathlib.Path) -> bool:
-    """Whether there is a file; a path that no file can have is none."""
+    """Returns whether there is a file; a path that no file can have is none."""
     try:
         return path.is_file()
     except (OSError, ValueError):
@@ -121,7 +121,7 @@ class Files:
     vault: Vault | None = None
 
     def path(self, cell: str) -> pathlib.Path:
-        """The file that a cell names; the folder's own parts may be parted by backslashes."""
+        """Returns the file that a cell names; the folder's own parts may be parted by backslashes."""
         root = self.folder.resolve()
         for name in (cell, cell.replace("\\", "/")):
             path = (root / name).resolve()

@@ -38,7 +38,7 @@ class Form:
     synonyms: Mapping[str, list[str]]
 
     def column_named(self, name: str) -> str | None:
-        """The column that a name of a header is for; its own name comes before another column's synonym."""
+        """Returns the column that a name of a header is for; its own name comes before another column's synonym."""
         word = plain(name)
         own = next((it for it in self.names if word == plain(it)), None)
         return own or next((it for it in self.names if word in self.synonyms.get(it, [])), None)
@@ -48,7 +48,7 @@ class Form:
         return sum(self.column_named(it) is not None for it in header)
 
     def missing(self, there: Collection[str]) -> list[str]:
-        """The columns that are needed and not there; of those of which one is needed, all if none is there."""
+        """Returns the columns that are needed and not there; of those of which one is needed, all if none is there."""
         either = [] if any(it in there for it in self.either) else self.either
         return [*either, *(it for it in self.needed if it not in there)]
 
@@ -66,7 +66,7 @@ class Columns:
     form: Form = RECORD
 
     def nameless(self, width: int) -> list[int]:
-        """The places of a row with so many cells for which the header has no name."""
+        """Returns the places of a row with so many cells for which the header has no name."""
         used = set(self.places.values())
         return [at for at in range(width) if at not in used and (at >= len(self.header) or not self.header[at].strip())]
 
@@ -90,7 +90,7 @@ class Columns:
 
 
 def plain(name: str) -> str:
-    """A name without capitals, marks and doubled spaces."""
+    """Returns a name without capitals, marks and doubled spaces."""
     return re.sub(r"[\s_.:\-]+", " ", name.casefold()).strip()
 
 

@@ -28,13 +28,13 @@ MOST_SPANS = 5
 
 
 def reached(asked: argparse.Namespace, url: str) -> OverHttp:
-    """The office at an address, for the name that the words give."""
+    """Returns the office at an address, for the name that the words give."""
     login = asked.login.read_text().strip() if asked.login else None
     return OverHttp(url, login, asked.ca)
 
 
 def vault_of(asked: argparse.Namespace) -> Vault | None:
-    """The vault that large files go into, if the words name one; it must answer."""
+    """Returns the vault that large files go into, if the words name one; it must answer."""
     if not asked.vault:
         return None
     vault = Vault(reached(asked, asked.vault))
@@ -76,7 +76,7 @@ class Converter:
                      self.asked.zone)
 
     def form(self, at: int, header: list[str]) -> tuple[str, Form]:
-        """The kind of the rows of a sheet, and its columns."""
+        """Returns the kind of the rows of a sheet, and its columns."""
         if self.asked.history:
             return ("file", FILES) if at == 0 else ("record", RECORDS)
         kind = self.asked.act
@@ -90,7 +90,7 @@ class Converter:
         return kind, form_of(kind, with_day=True)
 
     def read(self, at: int, path: pathlib.Path) -> Sheet:
-        """The sheet at that place among those that are named."""
+        """Returns the sheet at that place among those that are named."""
         asked = self.asked
         text, encoded = decoded(path.read_bytes(), asked.encoding)
         kind_known = known if asked.history or asked.act == "plan" else form_of(asked.act, True).known
@@ -120,7 +120,7 @@ class Converter:
         return HistoryTurner(columns, self.things, self.options(), files)
 
     def sheets(self) -> list[Sheet]:
-        """All sheets, with what came of their rows."""
+        """Returns all sheets, with what came of their rows."""
         sheets = [self.read(at, path) for at, path in enumerate(self.asked.sheet)]
         allowed = {name for it in sheets for name in it.columns.form.names} | {"day"}
         strange = [name for name, _ in [*self.asked.column, *self.asked.set] if name not in allowed]
@@ -197,7 +197,7 @@ def spans(rows: list[tuple[str, ActRow]]) -> list[str]:
 
 
 def answer_words(answer: dict[str, object] | None) -> str:
-    """An answer in a line, as an import has it."""
+    """Returns an answer in a line, as an import has it."""
     if answer is None:
         return "not sent"
     if "refused" in answer:

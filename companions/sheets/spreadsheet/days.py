@@ -75,7 +75,7 @@ def long_year(short: int, first_year: int) -> int:
 
 
 def order_of(cells: Iterable[tuple[str, str]], asked: str | None, first_year: int | None) -> Order:
-    """The one order by which all cells are days that are days by any. Cells come with their places.
+    """Returns the one order by which all cells are days that are days by any. Cells come with their places.
 
     Where no order does it, or several do and one cell means another day by each, somebody must say which. So must
     somebody say at which place the day of a moment is.
@@ -115,7 +115,7 @@ def why_doubtful(where: str, text: str, read: dict[str, datetime.date], fits: li
 
 
 def day_read(text: str, order: str, first_year: int | None) -> datetime.date | None:
-    """The day that a text means in a column of that order. Four digits of a year in front need none."""
+    """Returns the day that a text means in a column of that order. Four digits of a year in front need none."""
     read = readings(text, first_year)
     return read.get("ymd") if YEAR_FIRST.fullmatch(text) else read.get(order)
 

@@ -68,7 +68,7 @@ class HistoryTurner(ActTurner):
             found.good += acts
 
     def read(self, row: Row, found: ActFindings, name: str, part: Callable[[str], object]) -> object:
-        """The value of a cell, none where it is wrong."""
+        """Returns the value of a cell, none where it is wrong."""
         act: dict[str, object] = {}
         self.put(act, row, found, name, lambda: part(self.cell(row, name)))
         return act.get(name)
@@ -141,5 +141,5 @@ class HistoryTurner(ActTurner):
 
 
 def sorted_acts(rows: list[ActRow]) -> list[ActRow]:
-    """The acts by their days; those of one day as they follow from one another."""
+    """Returns the acts by their days; those of one day as they follow from one another."""
     return sorted(rows, key=lambda it: it.place() if isinstance(it, HistoryRow) else ("", 0, 0))

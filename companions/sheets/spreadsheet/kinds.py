@@ -87,7 +87,7 @@ MEMBERS: dict[str, str] = {
 
 
 def form_of(kind: str, with_day: bool = False) -> Form:
-    """The columns of a kind; the day of the act may be one of them."""
+    """Returns the columns of a kind; the day of the act may be one of them."""
     needed, either, more = (it.split() for it in COLUMNS[kind])
     names = [*either, *needed, *more, *(["day"] if with_day else [])]
     own: Mapping[str, list[str]] = OF_KIND.get(kind, {})
@@ -95,13 +95,13 @@ def form_of(kind: str, with_day: bool = False) -> Form:
 
 
 def word_named(member: str, cell: str) -> str | None:
-    """The word of a member that a cell means."""
+    """Returns the word of a member that a cell means."""
     text = plain(cell)
     return next((word for word, others in WORDS[member].items() if text == plain(word) or text in others), None)
 
 
 def kind_shown(header: list[str]) -> str | None:
-    """The kind of a part of the plan that a header shows, none where it does not."""
+    """Returns the kind of a part of the plan that a header shows, none where it does not."""
     if "act" in named(form_of("plan"), header):
         return "plan"
     kinds = ("add-schedule", "add-class", "add-aggregation")
@@ -109,5 +109,5 @@ def kind_shown(header: list[str]) -> str | None:
 
 
 def named(form: Form, header: list[str]) -> list[str]:
-    """The columns of a form that a header has."""
+    """Returns the columns of a form that a header has."""
     return [name for name in map(form.column_named, header) if name]

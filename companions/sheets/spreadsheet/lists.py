@@ -11,7 +11,7 @@ from spreadsheet.sheet import Unreadable
 
 
 def lists_of(acts: Iterable[Act], most: int = MOST_BYTES) -> Iterator[list[str]]:
-    """The lines of acts in lists, in their order, each of which fits into one request."""
+    """Gives the lines of acts in lists, in their order, each of which fits into one request."""
     lines: list[str] = []
     size = 0
     for act in acts:

@@ -20,7 +20,7 @@ class Pending:
 
 
 def word_of(member: str, cell: str) -> str:
-    """The word of a member, as trigger or unit."""
+    """Returns the word of a member, as trigger or unit."""
     word = word_named(member, cell)
     if word is None:
         raise Wrong("word", f"is none of {', '.join(WORDS[member])}" if cell else "the cell is empty")
@@ -28,7 +28,7 @@ def word_of(member: str, cell: str) -> str:
 
 
 def count_of(cell: str, unit: str | None) -> int:
-    """The length of a period, up to the most of its unit."""
+    """Returns the length of a period, up to the most of its unit."""
     if not re.fullmatch("[0-9]{1,9}", cell):
         raise Wrong("count", "is not a whole number in digits" if cell else "the cell is empty")
     if unit and int(cell) > LONGEST[unit]:
@@ -43,7 +43,7 @@ def needed_code(cell: str) -> str:
 
 
 def digest_of(cell: str) -> str:
-    """A digest; capital digits, as Windows writes them, become small ones."""
+    """Returns a digest; capital digits, as Windows writes them, become small ones."""
     if not re.fullmatch("[0-9A-Fa-f]{64}", cell):
         raise Wrong("digest", f"is no SHA-256: its length is {len(cell)}, and that of a SHA-256 is 64 characters, of 0 to 9 and a to f"
                     if cell else "the cell is empty")
@@ -51,7 +51,7 @@ def digest_of(cell: str) -> str:
 
 
 def without_guard(ref: str) -> str:
-    """A ref without the apostrophe that the page's CSV puts before what a spreadsheet program would compute."""
+    """Returns a ref without the apostrophe that the page's CSV puts before what a spreadsheet program would compute."""
     return ref[1:] if re.match("'[=+\\-@\t\r\n\uff1d\uff0b\uff0d\uff20]", ref) else ref
 
 
@@ -64,7 +64,7 @@ class Things:
         self.added: dict[str, set[str]] = {"schedule": set(), "class": set(), "hold": set(), "aggregation": set()}
 
     def number(self, what: str, cell: str, ref: str = "") -> int | Pending:
-        """The number of a thing; where a row has its ref too, the catalogue must have that ref for it."""
+        """Returns the number of a thing; where a row has its ref too, the catalogue must have that ref for it."""
         if not cell and not ref:
             raise Wrong("nothing", f"there is neither a number nor a ref of the {what}")
         if not cell:
@@ -117,7 +117,7 @@ class Things:
     # ---- what somebody should look at
 
     def look(self, what: str, number: object, kind: str) -> tuple[str, str] | None:
-        """Whether a number is that of a thing which the catalogue has, and open."""
+        """Returns whether a number is that of a thing which the catalogue has, and open."""
         if self.catalogue is None or not isinstance(number, int):
             return None
         if self.catalogue.ref(what, number) is None:
@@ -127,7 +127,7 @@ class Things:
         return None
 
     def look_code(self, what: str, code: str, is_new: bool) -> tuple[str, str] | None:
-        """Whether a code is there, or is not there where it is to be new."""
+        """Returns whether a code is there, or is not there where it is to be new."""
         if self.catalogue is None or not code:
             return None
         is_there = code in self.catalogue.codes[what]

@@ -39,7 +39,7 @@ class Row:
 
 
 def place(column: int, row: int) -> str:
-    """A cell as a sheet names it: the column's letters, and the row's number. Columns count from 0 here."""
+    """Returns a cell as a sheet names it: the column's letters, and the row's number. Columns count from 0 here."""
     return f"{letters(column)}{row}"
 
 
@@ -53,13 +53,13 @@ def letters(column: int) -> str:
 
 
 def in_quotes(cell: str) -> str:
-    """A cell in a message: its beginning, with marks for characters that nobody sees."""
+    """Returns a cell in a message: its beginning, with marks for characters that nobody sees."""
     short = cell if len(cell) <= 40 else cell[:37] + "..."
     return '"' + "".join(it if it.isprintable() else f"<U+{ord(it):04X}>" for it in short) + '"'
 
 
 def decoded(data: bytes, encoding: str | None) -> tuple[str, str]:
-    """The text of a file, and the name of its encoding."""
+    """Returns the text of a file, and the name of its encoding."""
     if data.startswith(WORKBOOKS):
         raise Unreadable("workbook", "this is a workbook: save it as \"CSV UTF-8\" in the spreadsheet program")
     if encoding:
@@ -90,7 +90,7 @@ def in_encoding(data: bytes, codec: str, name: str) -> str:
 
 
 def is_encoding(name: str) -> bool:
-    """Whether Python knows a text encoding by that name."""
+    """Returns whether Python knows a text encoding by that name."""
     try:
         return isinstance(b"".decode(name), str)
     except LookupError:
@@ -101,7 +101,7 @@ Known = Callable[[list[str]], int]
 
 
 def separated(text: str, known: Known, header: int, asked: str | None) -> tuple[str, list[Row]]:
-    """The separator's name, and all rows.
+    """Returns the separator's name, and all rows.
 
     By it the header has the most known names, or else a row near the top has them, or else the header the most cells.
     """

@@ -56,7 +56,7 @@ class Turner:
         self.order = Order("ymd", None)
 
     def all(self, rows: list[Row], days: str | None) -> Findings:
-        """All rows, by the order of days that is asked for, else by the one that the column shows."""
+        """Returns all rows, by the order of days that is asked for, else by the one that the column shows."""
         found = Findings()
         filled = [it for it in rows if not it.is_empty()]
         found.empty = len(rows) - len(filled)
@@ -67,7 +67,7 @@ class Turner:
         return found
 
     def cell(self, row: Row, name: str) -> str:
-        """A cell without the spaces around it; one that the row has not is empty."""
+        """Returns a cell without the spaces around it; one that the row has not is empty."""
         if name in self.columns.values:
             return self.columns.values[name]
         at = self.columns.places.get(name, len(row.cells))
@@ -96,7 +96,7 @@ class Turner:
         return read.isoformat()
 
     def aggregation(self, cell: str) -> str:
-        """The number of an aggregation, or that of the one whose ref the catalogue has."""
+        """Returns the number of an aggregation, or that of the one whose ref the catalogue has."""
         return str(self.things.number("aggregation", cell)) if cell and self.things.catalogue else number_of(cell)
 
     def look(self, name: str, value: str) -> tuple[str, str] | None:
@@ -108,7 +108,7 @@ class Turner:
         return self.things.look_code(name, value, False) if name in ("class", "schedule") else None
 
     def content(self, cell: str) -> str:
-        """The base64, or the name of a file that is there and not too large: it is read when it is written."""
+        """Returns the base64, or the name of a file that is there and not too large: it is read when it is written."""
         if self.files is None:
             return content_of(cell)
         self.files.check(cell)
@@ -145,7 +145,7 @@ class Turner:
             found.good.append((row.number, values))
 
     def lines(self, found: Findings) -> Iterator[str]:
-        """The lines of the import, one after another: the content of a file is read when its line is made."""
+        """Gives the lines of the import, one after another: the content of a file is read when its line is made."""
         yield line_of(NAMES)
         for _, values in found.good:
             yield line_of([*values[:-1], self.files.content(values[-1]) if self.files else values[-1]])
