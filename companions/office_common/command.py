@@ -1,9 +1,10 @@
 """How every command begins and ends: its arguments, its messages and its exit status."""
 import argparse
+import signal
 import sys
 from collections.abc import Callable
 
-from office_common.errors import IMPOSSIBLE, USAGE, Refused
+from office_common.errors import IMPOSSIBLE, USAGE, WRONG, Refused
 
 ERROR = 3
 """the priority of an error in the journal of systemd"""
@@ -22,6 +23,21 @@ def number(least: int, most: int | None = None) -> Callable[[str], int]:
         end = "" if most is None else f" to {most}"
         raise argparse.ArgumentTypeError(f"'{text}' is no number from {least}{end}")
     return read
+
+
+def operands(usage: str, least: int, most: int | None = None) -> list[str]:
+    """Returns the arguments of a command without options. If it has fewer or more, the command ends with its usage."""
+    args = sys.argv[1:]
+    if len(args) < least or most is not None and len(args) > most:
+        print(f"usage: {usage}", file=sys.stderr)
+        sys.exit(USAGE)
+    return args
+
+
+def end_by_signals() -> None:
+    """Lets a signal that ends this process end it as an error does, so that it clears away what it began."""
+    for number in (signal.SIGHUP, signal.SIGINT, signal.SIGTERM):
+        signal.signal(number, lambda *_: sys.exit(WRONG))
 
 
 def report(name: str, text: str, level: int | None = None) -> None:

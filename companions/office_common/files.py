@@ -1,10 +1,13 @@
 """FILE, its log and its copies: what they hold, who has them open, and writes that are on the disk once they return."""
 import contextlib
 import fcntl
+import glob
 import os
 import re
+import shutil
 import sqlite3
 import struct
+import tempfile
 from collections.abc import Iterator
 from pathlib import Path
 
@@ -55,7 +58,14 @@ def is_locked(file: Path) -> bool:
 
 def is_open(file: Path) -> bool:
     """Returns whether a process that this user may look into has the file open, or any process has it locked."""
-    return is_locked(file) or any(is_same(descriptor, file) for descriptor in Path("/proc").glob("[0-9]*/fd/*"))
+    return is_locked(file) or any(is_same(descriptor, file) for descriptor in descriptors())
+
+
+def descriptors() -> Iterator[Path]:
+    """Lists the open files of the processes that this user may look into. A process may end meanwhile."""
+    for process in Path("/proc").glob("[0-9]*"):
+        with contextlib.suppress(OSError):
+            yield from (process / "fd").iterdir()
 
 
 def is_same(descriptor: Path, file: Path) -> bool:
@@ -99,12 +109,16 @@ def sync(path: Path) -> None:
         os.close(descriptor)
 
 
-def write(file: Path, data: bytes, mode: int = 0o666) -> None:
-    """Puts a whole file in place: a stop at any moment leaves the file that was there, or this one."""
+def write(file: Path, data: bytes, mode: int = 0o666, owner: tuple[int, int] | None = None) -> None:
+    """Puts a whole file in place: a stop at any moment leaves the file that was there, or this one. With a user and a
+    group it is theirs before anybody sees it, and has exactly this mode."""
     new = file.with_name(f".{file.name}.new")
     new.unlink(missing_ok=True)
     descriptor = os.open(new, os.O_WRONLY | os.O_CREAT | os.O_EXCL, mode)
     with open(descriptor, "wb") as opened:
+        if owner is not None:
+            os.fchown(descriptor, *owner)
+            os.fchmod(descriptor, mode)
         opened.write(data)
         opened.flush()
         os.fsync(descriptor)
@@ -131,3 +145,35 @@ def locked(path: Path, waits: bool = False, is_made: bool = False) -> Iterator[N
         yield
     finally:
         os.close(descriptor)
+
+
+# ---- folders for the time of a work
+
+
+@contextlib.contextmanager
+def new_folder(parent: Path, start: str) -> Iterator[Path]:
+    """Gives a folder of this process's own, whose name begins so. At the end it goes, with all that is left in it.
+
+    First it removes what a process that was killed left: whoever is at work holds the lock of its folder.
+    """
+    for left in parent.glob(f"{glob.escape(start)}*"):
+        with contextlib.suppress(Refused, OSError), locked(left):
+            shutil.rmtree(left)
+    path, handle = locked_folder(parent, start)
+    try:
+        yield path
+    finally:
+        shutil.rmtree(path, ignore_errors=True)
+        os.close(handle)
+
+
+def locked_folder(parent: Path, start: str) -> tuple[Path, int]:
+    """Makes a folder and locks it. Another process may remove one that is not locked yet: then it makes another."""
+    while True:
+        path = Path(tempfile.mkdtemp(prefix=start, dir=parent))
+        with contextlib.suppress(FileNotFoundError):
+            handle = os.open(path, os.O_RDONLY | os.O_DIRECTORY)
+            fcntl.flock(handle, fcntl.LOCK_EX)
+            if path.exists():
+                return path, handle
+            os.close(handle)

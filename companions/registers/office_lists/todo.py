@@ -1,25 +1,19 @@
-"""Prints what waits for somebody in the copy of an office on a day, with a count of days to confirm.
+"""The list of what waits for somebody in an office on a day, with a count of days to confirm.
 
-    todo.py COPY DAY COUNT
-
-office-todo runs it, as the owner of the copy. What is due and overdue are the program's own registers; all else is what
-the tables of the copy have.
+What is due and overdue are the program's own registers of a copy. All else is in the tables of the copy.
 """
 import contextlib
 import csv
-import pathlib
+import os
+import sqlite3
 import subprocess
-import sys
 from collections import Counter
 from collections.abc import Iterator
+from pathlib import Path
 
-sys.dont_write_bytecode = True
-sys.path[:0] = [str(folder) for folder in pathlib.Path(__file__).resolve().parents[1:3]
-                if (folder / "office_lists").is_dir() or (folder / "office_common").is_dir()]
+from office_common import command, files
+from office_lists.morning import Request, fail
 
-from office_common import command, files, program  # noqa: E402
-
-NAME = "office-todo"
 OPEN_RUNS = "SELECT 'run ' || num || ', opened on ' || date(day * 86400, 'unixepoch') FROM runs WHERE closed = 0"
 RECEIVED = "SELECT count(*) FROM records WHERE status = 'received'"
 STILL = """
@@ -38,14 +32,18 @@ SELECT code, 'since', date(placed * 86400, 'unixepoch') FROM holds
   WHERE lifted IS NULL AND placed <= unixepoch(?, '-12 months') / 86400 ORDER BY placed, code"""
 
 
+class NoRegister(Exception):
+    """A register that the program did not print. The program has reported why."""
+
+
 def register(*args: str) -> Iterator[dict[str, str]]:
-    """Reads a register that the program prints, row by row. It says itself why it prints none."""
-    with subprocess.Popen([program.find(), *args], stdin=subprocess.DEVNULL, stdout=subprocess.PIPE, text=True,
+    """Reads a register that the program prints, row by row."""
+    with subprocess.Popen([os.environ["OFFICE"], *args], stdin=subprocess.DEVNULL, stdout=subprocess.PIPE, text=True,
                           encoding="utf-8") as process:
         assert process.stdout is not None
         yield from csv.DictReader(process.stdout)
     if process.returncode:
-        sys.exit(process.returncode)
+        raise NoRegister
 
 
 def due(rows: Iterator[dict[str, str]]) -> Counter[str]:
@@ -79,9 +77,9 @@ def by_registers(copy: str, day: str, count: str) -> Iterator[str]:
     yield line("Confirmed, and kept by a hold", counts["kept"])
 
 
-def by_tables(copy: str, day: str) -> Iterator[str]:
+def by_tables(copy: Path, day: str) -> Iterator[str]:
     """Lists what waits by the tables of the copy."""
-    with contextlib.closing(files.tables_of(pathlib.Path(copy))) as tables:
+    with contextlib.closing(files.tables_of(copy)) as tables:
         runs = tables.execute(OPEN_RUNS).fetchall() or [("none",)]
         yield line("Open run", "\n".join(run for run, in runs))
         yield line("Received, and ended by the next run", tables.execute(RECEIVED).fetchone()[0])
@@ -92,11 +90,15 @@ def by_tables(copy: str, day: str) -> Iterator[str]:
         yield from (" ".join(["   ", *row]) for row in tables.execute(HOLDS, [day]))
 
 
-def show(copy: str, day: str, count: str) -> None:
-    """Prints the list, once it is whole."""
-    lines = [f"To do on {day}", "", *by_registers(copy, day, count), *by_tables(copy, day)]
-    print("\n".join(lines))
-
-
-if __name__ == "__main__":
-    sys.exit(command.run(NAME, lambda: show(*sys.argv[1:])))
+def write(new: Path, request: Request) -> list[Path]:
+    """Writes the list of a copy."""
+    copy, day, count = new / "copy.db", request.day, request.margin
+    try:
+        lines = [f"To do on {day}", "", *by_registers(str(copy), day, count), *by_tables(copy, day)]
+    except (NoRegister, OSError, sqlite3.Error) as error:
+        if not isinstance(error, NoRegister):
+            command.report("office-todo", str(error))
+        raise fail(f"there is no list of {day} and {count} days") from error
+    file = new / "todo.txt"
+    file.write_text("\n".join([*lines, ""]), encoding="utf-8")
+    return [file]
