@@ -35,15 +35,15 @@ class Person:
     grants: tuple[Grant, ...] = ()
 
     def may(self, word: str) -> bool:
-        """Whether the name has this right for anything at all."""
+        """Returns whether the name has this right for anything at all."""
         return any(it.word == word for it in self.grants)
 
     def may_all(self, word: str) -> bool:
-        """Whether the name has this right for everything."""
+        """Returns whether the name has this right for everything."""
         return any(it.word == word and it.is_whole() for it in self.grants)
 
     def may_in(self, word: str, code: str | None, status: str | None = None) -> bool:
-        """Whether the name has this right for a class. None is what lies in no class, or in one that nobody knows."""
+        """Returns whether the name has this right for a class. None stands for no class, or an unknown one."""
         return any(it.word == word and it.covers(code, status) for it in self.grants)
 
     def classes_of(self, word: str) -> list[list[str]] | None:

@@ -54,28 +54,28 @@ def target_of(act: Json) -> str | None:
 
 def things_of(act: Json) -> set[str]:
     """Names the things that an act is about, as `record:8`."""
-    kind, found = act["act"], set[str]()
+    kind, things = act["act"], set[str]()
     if kind in OF_RECORD and (number := number_in(act, "record")):
-        found.add(f"record:{number}")
+        things.add(f"record:{number}")
     for thing, member in NAMED.get(kind, ()):
         name = number_in(act, member) if thing == "aggregation" else code_in(act, member)
         if name:
-            found.add(f"{thing}:{name}")
+            things.add(f"{thing}:{name}")
     if kind in ("reclassify", "hold-on", "hold-off") and (target := target_of(act)):
-        found.add(target)
-    return found
+        things.add(target)
+    return things
 
 
 def made_by(kind: str, answer: Json) -> set[str]:
     """Names the things that only the answer names: what was made, what a step took, the run that was closed."""
     made = {"add-record": "record", "add-aggregation": "aggregation", "open-run": "run"}
-    found = set()
+    things = set()
     if kind in made and (number := number_in(answer, "number")):
-        found.add(f"{made[kind]}:{number}")
+        things.add(f"{made[kind]}:{number}")
     if kind in ("run-step", RESUME):
-        found |= {f"{thing}:{answer[name]}" for thing, name in (("record", "record"), ("run", "certificate"))
-                  if number_in(answer, name)}
-    return found
+        things |= {f"{thing}:{answer[name]}" for thing, name in (("record", "record"), ("run", "certificate"))
+                   if number_in(answer, name)}
+    return things
 
 
 def changes_of(act: Json, answer: Json) -> list[Change]:
@@ -92,7 +92,7 @@ def changes_of(act: Json, answer: Json) -> list[Change]:
         return [Change(f"aggregation:{number}", "class", code_in(act, "class"))]
     # what is answered as there already keeps what it has
     if kind == "add-record" and not answer.get("same"):
-        return [Change(f"record:{number}", it, code_in(act, it)) for it in ("class", "schedule")]
+        return [Change(f"record:{number}", member, code_in(act, member)) for member in ("class", "schedule")]
     return []
 
 

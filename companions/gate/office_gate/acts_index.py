@@ -12,7 +12,7 @@ from office_gate.act_things import changes_of, made_by, members_of, things_of
 from office_gate.body import Json, text_of
 from office_gate.catching import number_of
 from office_gate.chain import START, Head, Line, digest, entry_of, files_of, lines_of
-from office_gate.errors import Refused, say
+from office_gate.derived import open_derived
 from office_gate.words import ACTS, RESUME
 
 TABLES = """
@@ -34,6 +34,8 @@ EACH = 2000
 """after so many lines what was read of them is kept"""
 MOST_LINE = 1 << 23
 """no line is longer: a request has at most 1 MiB, and a byte of it is at most six letters of JSON"""
+DENIAL = ("error", "place", "rule")
+"""why an office that decides too stopped a list, and at which act: those from there on were not done"""
 OPEN_RUN = "run that is open"
 COLUMNS = "line, place, at, name, reason, status, known, kind, act, answer, done, change"
 
@@ -72,18 +74,8 @@ def opened(path: Path) -> sqlite3.Connection:
     return db
 
 
-def made_anew(path: Path, error: Exception) -> sqlite3.Connection:
-    say(f"{path} is made anew: {error}")
-    for end in ("", "-wal", "-shm"):
-        Path(f"{path}{end}").unlink(missing_ok=True)
-    try:
-        return opened(path)
-    except sqlite3.DatabaseError as broken:
-        raise Refused(3, f"{path}: {broken}") from broken
-
-
 def is_at(path: Path, place: int, head: Head) -> bool:
-    """Whether that line of a file ends at that place."""
+    """Returns whether that line of a file ends at that place."""
     with path.open("rb") as file:
         file.seek(max(0, place - MOST_LINE))
         data = file.read(min(place, MOST_LINE))
@@ -95,10 +87,7 @@ class ActsIndex:
 
     def __init__(self, path: Path, journal: Path) -> None:
         self.journal, self.using, self.is_ended = journal, threading.Lock(), False
-        try:
-            self.db = opened(path)
-        except sqlite3.DatabaseError as error:
-            self.db = made_anew(path, error)
+        self.db = open_derived(path, opened)
 
     # ---- reading the journal
 
@@ -145,7 +134,7 @@ class ActsIndex:
         head, file, place = self.folded()
         at = next((it for it, path in enumerate(files) if path.stat().st_ino == file), None)
         if head.line and (at is None or not is_at(files[at], place, head)):
-            at, place = self.found(files, head)
+            at, place = self.locate(files, head)
         for path in files[at or 0:]:
             yield from self.lines_from(path, place if path == files[at or 0] else 0)
 
@@ -160,10 +149,10 @@ class ActsIndex:
                     yield line, file, place
 
     def folded(self) -> tuple[Head, int, int]:
-        found = self.db.execute("SELECT line, sha256, file, place FROM folded").fetchone()
-        return (Head(found[0], found[1]), found[2], found[3]) if found else (START, 0, 0)
+        row = self.db.execute("SELECT line, sha256, file, place FROM folded").fetchone()
+        return (Head(row[0], row[1]), row[2], row[3]) if row else (START, 0, 0)
 
-    def found(self, files: list[Path], head: Head) -> tuple[int, int]:
+    def locate(self, files: list[Path], head: Head) -> tuple[int, int]:
         """Looks for the last line that was read, as in files that were copied. If it is nowhere, all is read anew."""
         for at, path in enumerate(files):
             place = 0
@@ -184,11 +173,11 @@ class ActsIndex:
     def fold(self, entry: Json) -> None:
         what = entry.get("what")
         if what in ("asked", "refused"):
-            self.asked(entry, what == "refused")
+            self.take_request(entry, what == "refused")
         elif what == "answered":
             self.answered(entry)
 
-    def asked(self, entry: Json, is_refused: bool) -> None:
+    def take_request(self, entry: Json, is_refused: bool) -> None:
         """Takes the acts of a request. What the gate refused has its answer in the same line."""
         line, reason = int(entry["line"]), entry.get("reason")
         kinds = [it for it in entry.get("acts") or [] if isinstance(it, dict) and it.get("act") in ACTS]
@@ -214,10 +203,11 @@ class ActsIndex:
         self.db.execute("UPDATE requests SET ended = ?, status = ?, known = ? WHERE line = ?",
                         (entry["at"], int(entry.get("status", 0)), known, line))
         answers = entry.get("answers") if "answers" in entry else [entry.get("answer")]
+        denial = {name: entry[name] for name in DENIAL} if all(name in entry for name in DENIAL) else None
         rows = self.db.execute("SELECT place, kind, act FROM acts WHERE line = ? ORDER BY place", (line,)).fetchall()
         for place, kind, text in rows:
             act = {"act": kind, **json.loads(text)}
-            answer = answers[place] if isinstance(answers, list) and place < len(answers) else None
+            answer = answers[place] if isinstance(answers, list) and place < len(answers) else denial
             if isinstance(answer, dict):
                 self.answer(line, place, act, answer)
             elif not known:
@@ -241,25 +231,26 @@ class ActsIndex:
 
     def change(self, act: Json, answer: Json) -> Json | None:
         """Returns what an act changed, with the value before if the journal has it, and notes the new one."""
-        found: list[Json] = []
-        for it in changes_of(act, answer):
-            before = self.given(it.thing, it.name)
-            found.append({"what": it.name, **({"from": before[it.name]} if before else {}), "to": it.value})
-            self.give(it.thing, it.name, it.value)
+        changes: list[Json] = []
+        for change in changes_of(act, answer):
+            before = self.given(change.thing, change.name)
+            past = {"from": before[change.name]} if before else {}
+            changes.append({"what": change.name, **past, "to": change.value})
+            self.give(change.thing, change.name, change.value)
         is_made = act["act"].startswith("add-")
-        return None if is_made or not found else found[0]
+        return None if is_made or not changes else changes[0]
 
     def given(self, thing: str, name: str) -> dict[str, str | None] | None:
-        found = self.db.execute("SELECT value FROM given WHERE thing = ? AND name = ?", (thing, name)).fetchone()
-        return {name: found[0]} if found else None
+        row = self.db.execute("SELECT value FROM given WHERE thing = ? AND name = ?", (thing, name)).fetchone()
+        return {name: row[0]} if row else None
 
     def give(self, thing: str, name: str, value: str | None) -> None:
         self.db.execute("INSERT OR REPLACE INTO given VALUES (?, ?, ?)", (thing, name, value))
 
     def forget(self, act: Json) -> None:
         """Forgets the values that an act may have changed, of which nobody knows whether it was done."""
-        for it in changes_of(act, {}):
-            self.db.execute("DELETE FROM given WHERE thing = ? AND name = ?", (it.thing, it.name))
+        for change in changes_of(act, {}):
+            self.db.execute("DELETE FROM given WHERE thing = ? AND name = ?", (change.thing, change.name))
 
     # ---- what is known
 
@@ -287,13 +278,13 @@ class ActsIndex:
     def begins(self) -> str | None:
         """Returns the moment of the first act that the journal has."""
         with self.using:
-            found = self.db.execute("SELECT at FROM requests ORDER BY line LIMIT 1").fetchone()
-        return str(found[0]) if found else None
+            row = self.db.execute("SELECT at FROM requests ORDER BY line LIMIT 1").fetchone()
+        return str(row[0]) if row else None
 
     def moved(self, at: str) -> tuple[int, set[str]]:
         """Returns the targets that may have another class since a moment, and the line of the last such act."""
         with self.using:
-            found = self.db.execute("SELECT line, thing FROM requests JOIN acts USING (line) JOIN things USING "
-                                    "(line, place) WHERE (ended >= ? OR ended IS NULL) AND kind = 'reclassify' AND "
-                                    "(done OR NOT known OR ended IS NULL)", (at,)).fetchall()
-        return max((line for line, _ in found), default=0), {thing for _, thing in found}
+            rows = self.db.execute("SELECT line, thing FROM requests JOIN acts USING (line) JOIN things USING "
+                                   "(line, place) WHERE (ended >= ? OR ended IS NULL) AND kind = 'reclassify' AND "
+                                   "(done OR NOT known OR ended IS NULL)", (at,)).fetchall()
+        return max((line for line, _ in rows), default=0), {thing for _, thing in rows}

@@ -13,5 +13,5 @@ def folded(text: str) -> str:
 def scripts(text: str) -> set[str]:
     """Returns the scripts of the letters in a text, by the first words of their names in Unicode."""
     letters = (it for it in unicodedata.normalize("NFKC", text) if unicodedata.category(it).startswith("L"))
-    found = {unicodedata.name(it, "UNKNOWN").split()[0] for it in letters}
-    return {"EAST ASIAN" if it in TOGETHER else it for it in found}
+    names = {unicodedata.name(it, "UNKNOWN").split()[0] for it in letters}
+    return {"EAST ASIAN" if it in TOGETHER else it for it in names}

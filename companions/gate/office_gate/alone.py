@@ -34,7 +34,7 @@ Step = tuple[str, Stage]
 
 
 def has(person: Person, kind: str) -> bool:
-    """Whether a name may do an act of this kind: a run lies in no class."""
+    """Returns whether a name may do an act of this kind: a run lies in no class."""
     return person.may_all(kind) if kind in (*CARRIES, "open-run") else person.may(kind)
 
 
@@ -77,14 +77,14 @@ def runs(stage: Stage, rules: Rules) -> Iterator[Step]:
 def way(person: Person, rules: Rules, run: str) -> list[str] | None:
     """Returns the fewest acts by which a name alone gets a content destroyed, or None if there are none."""
     waiting = deque((replace(it, run=run), list[str]()) for it in STARTS)
-    seen = {it for it, _ in waiting}
+    stages = {it for it, _ in waiting}
     while waiting:
         stage, acts = waiting.popleft()
         if stage.status == "ended":
             return acts
         for kind, after in (*decisions(stage, rules), *runs(stage, rules)):
-            if after not in seen and has(person, kind):
-                seen.add(after)
+            if after not in stages and has(person, kind):
+                stages.add(after)
                 waiting.append((after, [*acts, kind]))
     return None
 
@@ -92,10 +92,10 @@ def way(person: Person, rules: Rules, run: str) -> list[str] | None:
 def statement(access: Access) -> list[str]:
     """Says which name alone can destroy, and by which acts: a line for each."""
     everybody = [*access.people.items(), *([("*", access.others)] if access.others else [])]
-    found = []
+    lines = []
     for name, person in everybody:
         if acts := way(person, access.rules, ""):
-            found.append(f"one name alone can destroy: {name} ({', '.join(acts)})")
+            lines.append(f"one name alone can destroy: {name} ({', '.join(acts)})")
         elif acts := way(person, access.rules, "other"):
-            found.append(f"one name alone can destroy: {name} ({', '.join(acts)}, once another name opened a run)")
-    return found or ["no name alone can destroy a record"]
+            lines.append(f"one name alone can destroy: {name} ({', '.join(acts)}, once another name opened a run)")
+    return lines or ["no name alone can destroy a record"]

@@ -31,7 +31,7 @@ class Reply:
 
 
 @dataclass(frozen=True)
-class Request:
+class OfficeRequest:
     """What is sent."""
 
     head: h11.Request
@@ -42,12 +42,12 @@ class Request:
         return b"".join(it or b"" for it in parts)
 
 
-def request(method: str, address: str, path: str, body: bytes | None, lines: dict[str, str]) -> Request:
+def request(method: str, address: str, path: str, body: bytes | None, lines: dict[str, str]) -> OfficeRequest:
     """Makes a request."""
     sent = {"Host": address, **lines, "Connection": "close"}
     if method == "POST":
         sent["Content-Length"] = str(len(body or b""))
-    return Request(h11.Request(method=method, target=path, headers=list(sent.items())), body or b"")
+    return OfficeRequest(h11.Request(method=method, target=path, headers=list(sent.items())), body or b"")
 
 
 def is_framed(lines: dict[str, str]) -> bool:
@@ -75,7 +75,7 @@ async def reply_of(taken: socket.socket, link: h11.Connection, seconds: float) -
             return Reply(status, lines, b"".join(parts))
 
 
-async def ask(at: tuple[str, int], sent: Request, seconds: float) -> Reply:
+async def ask(at: tuple[str, int], sent: OfficeRequest, seconds: float) -> Reply:
     """Sends a request, and returns the answer."""
     loop, link = asyncio.get_running_loop(), h11.Connection(h11.CLIENT)
     try:

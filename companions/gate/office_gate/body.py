@@ -42,10 +42,10 @@ def no_constant(_: str) -> NoReturn:
 
 def members(pairs: list[tuple[str, object]]) -> dict[str, object]:
     """Makes an object of its members, each of which is there once."""
-    found = dict(pairs)
-    if len(found) < len(pairs):
+    values = dict(pairs)
+    if len(values) < len(pairs):
         raise Answered(400, "double")
-    return found
+    return values
 
 
 DECODER = json.JSONDecoder(parse_int=number, parse_float=Number, parse_constant=no_constant, object_pairs_hook=members)
@@ -68,7 +68,7 @@ def text_of(value: object) -> str:
 
 
 def text_with_numbers(value: object) -> str:
-    """The same of what has numbers that only their text writes as they were."""
+    """Returns the same of what has numbers that only their text writes as they were."""
     if isinstance(value, Number):
         return value.text
     if isinstance(value, dict):

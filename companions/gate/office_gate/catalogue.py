@@ -3,11 +3,11 @@ import datetime
 import gzip
 import json
 import re
-import zlib
 from dataclasses import dataclass, field
 from pathlib import Path
 
-from office_gate.body import Json
+from office_common import catalogue
+from office_common.catalogue import FAILURES, Part
 
 Places = dict[tuple[int, str], int]
 """the aggregations of records, by number and ref"""
@@ -30,29 +30,39 @@ class Aggregations:
 
     def chain(self, number: int | None) -> list[int]:
         """Lists an aggregation and all that it lies in, the nearest first."""
-        found: list[int] = []
-        while number is not None and number in self.parents and number not in found:
-            found.append(number)
+        numbers: list[int] = []
+        while number is not None and number in self.parents and number not in numbers:
+            numbers.append(number)
             number = self.parents[number]
-        return found
+        return numbers
 
     def is_known(self, number: int | None) -> bool:
-        """Whether all that an aggregation lies in is known."""
+        """Returns whether all that an aggregation lies in is known."""
         chain = self.chain(number)
         return bool(chain) and self.parents[chain[-1]] is None
 
     def class_of(self, number: int | None) -> str | None:
         """Returns the class in effect, or None if nobody knows it."""
-        for it in self.chain(number):
-            if self.classes[it] is not None:
-                return self.classes[it]
+        for containing in self.chain(number):
+            if self.classes[containing] is not None:
+                return self.classes[containing]
         return None
 
 
-def rows(folder: Path, name: str) -> tuple[float, list[Json]]:
-    data = json.loads(gzip.decompress((folder / f"{name}.json.gz").read_bytes()))
-    moment = datetime.datetime.fromisoformat(data["moment"].replace("Z", "+00:00")).timestamp()
-    return moment, data[name]
+def moment_of(part: Part) -> float:
+    """Returns the moment of a file of the catalogue, as seconds."""
+    return datetime.datetime.fromisoformat(part.moment.replace("Z", "+00:00")).timestamp()
+
+
+def read(folder: Path) -> Aggregations:
+    """Reads which aggregations a catalogue has, and the runs that are open."""
+    part = catalogue.read(folder, "aggregations")
+    aggregations = Aggregations(moment_of(part))
+    for row in part.rows:
+        aggregations.add(row["number"], row["parent"], row["class"])
+    aggregations.open_runs = {run["number"]: run["by"] for run in catalogue.read(folder, "runs").rows
+                              if not run["closed"]}
+    return aggregations
 
 
 class Catalogue:
@@ -60,31 +70,26 @@ class Catalogue:
 
     def __init__(self, folder: Path | None) -> None:
         self.folder = folder
-        self.seen = ""
-        self.found = Aggregations()
+        self.source = ""
+        self.known = Aggregations()
 
     def now(self) -> Path | None:
         """Returns the folder of the catalogue that was read last, or None if there is none."""
-        return Path(self.seen) if self.seen else None
+        return Path(self.source) if self.source else None
 
     def read(self) -> tuple[Aggregations, bool]:
         """Returns what is known, and whether it is new."""
         if self.folder is None:
-            return self.found, False
+            return self.known, False
         try:
             at = (self.folder / "now").resolve(strict=True)
-            if str(at) == self.seen:
-                return self.found, False
-            moment, aggregations = rows(at, "aggregations")
-            _, runs = rows(at, "runs")
-            found = Aggregations(moment)
-            for it in aggregations:
-                found.add(it["number"], it["parent"], it["class"])
-            found.open_runs = {it["number"]: it["by"] for it in runs if not it["closed"]}
-        except (OSError, ValueError, KeyError, TypeError, zlib.error):
-            return self.found, False
-        self.seen, self.found = str(at), found
-        return found, True
+            if str(at) == self.source:
+                return self.known, False
+            self.known = read(at)
+        except FAILURES:
+            return self.known, False
+        self.source = str(at)
+        return self.known, True
 
     def places(self, wanted: dict[int, str]) -> Places:
         """Returns the aggregations of records that have the refs that the office reports. It runs beside the loop."""
@@ -100,7 +105,7 @@ class Catalogue:
                     number, ref, _, aggregation, _ = json.loads(row[1])
                     if wanted[number] == ref:
                         places[number, ref] = aggregation
-        except (OSError, EOFError, ValueError, TypeError, zlib.error):
+        except FAILURES:
             # the office is asked
             return {}
         return places

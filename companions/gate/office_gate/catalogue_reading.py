@@ -3,7 +3,7 @@ import asyncio
 import re
 from pathlib import Path
 
-from office_gate.deciding import Asked
+from office_gate.deciding import Caller
 from office_gate.errors import Answered
 from office_gate.gate import Gate
 from office_gate.history import History, moment_of
@@ -25,8 +25,8 @@ def contents_of(folder: Path, name: str) -> bytes:
 class CatalogueReading:
     """The readings of the catalogue by one name."""
 
-    def __init__(self, gate: Gate, asked: Asked) -> None:
-        self.gate, self.asked, self.person = gate, asked, asked.person
+    def __init__(self, gate: Gate, caller: Caller) -> None:
+        self.gate, self.caller, self.person = gate, caller, caller.person
 
     async def answer(self, name: str) -> Answer:
         need(self.person, "catalogue")
@@ -37,7 +37,7 @@ class CatalogueReading:
         if self.person.may_all("read catalogue"):
             data = await asyncio.to_thread(contents_of, whole, name)
         elif name in PARTS:
-            index = await History(self.gate, self.asked).index()
+            index = await History(self.gate, self.caller).index()
             line, moved = await asyncio.to_thread(index.moved, moment_of(known.moment))
             data = await self.gate.own.file(name, self.person, whole, (known, line, moved))
         else:

@@ -16,12 +16,12 @@ def seconds(at: object) -> float:
 
 
 def number_of(line: Line) -> int:
-    found = NUMBER.match(line.data)
-    return int(found[1]) if found else 0
+    match = NUMBER.match(line.data)
+    return int(match[1]) if match else 0
 
 
 def is_of(files: list[Path], head: Head) -> bool:
-    """Whether the journal has this very line."""
+    """Returns whether the journal has this very line."""
     for path, after in zip(files, [*files[1:], None]):
         if after is None or first_number(after) > head.line:
             return any(number_of(it) == head.line and digest(it.data) == head.sha256 for it in lines_of(path))
@@ -63,13 +63,13 @@ def catch_up(journal: Path, facts: Facts, end: Head) -> None:
     """Takes all lines that the facts lack, in one transaction."""
     files = files_of(journal)
     last = known_line(files, facts)
-    asked: dict[int, Json] = {}
+    requests: dict[int, Json] = {}
     facts.begin()
     for entry in lines_after(files, last):
         if entry.get("what") == "asked":
-            asked[int(entry["line"])] = entry
-        elif entry.get("what") == "answered" and (it := asked.pop(int(entry["of"]), None)):
-            facts.fold(it, entry, int(entry["of"]), seconds(entry["at"]))
+            requests[int(entry["line"])] = entry
+        elif entry.get("what") == "answered" and (request := requests.pop(int(entry["of"]), None)):
+            facts.fold(request, entry, int(entry["of"]), seconds(entry["at"]))
         elif entry.get("what") == "stored":
             facts.files.take(entry, seconds(entry["at"]))
     facts.commit(end)

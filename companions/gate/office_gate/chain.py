@@ -89,8 +89,8 @@ def first_number(path: Path) -> int:
 
 def files_of(place: Path) -> list[Path]:
     """Lists the files of a journal in their order: that one, and those that were rotated, as NAME-20261128."""
-    found = [it for it in place.parent.glob(f"{place.name}*") if it == place or it.name.startswith(f"{place.name}-")]
-    whole = [it for it in found if it.is_file() and it.stat().st_size]
+    files = [it for it in place.parent.glob(f"{place.name}*") if it == place or it.name.startswith(f"{place.name}-")]
+    whole = [it for it in files if it.is_file() and it.stat().st_size]
     return sorted(whole, key=lambda it: (first_number(it), it.name))
 
 

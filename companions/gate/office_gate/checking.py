@@ -22,8 +22,8 @@ class Checked:
     head: Head = START
     lines: int = 0
     rest: bytes | None = None
-    # how many heads were compared with their lines, and those whose lines are not here any more
-    compared: int = 0
+    # the heads that were compared with their lines, and those whose lines are not here any more
+    met: list[Head] = field(default_factory=list)
     missed: list[Head] = field(default_factory=list)
     # time stamps that go back, each with its lines
     falls: list[str] = field(default_factory=list)
@@ -41,36 +41,36 @@ def check(files: list[Path], known: Iterable[Head] = (), starts: Iterable[Head] 
     `known` are heads that were written down elsewhere: by these a chain that somebody wrote anew, or cut at its end, is
     seen too. `starts` are heads of lines that were dropped: the first line may follow one of them.
     """
-    seen, waiting, after = Checked(), numbered(known), set(starts)
+    checked, waiting, after = Checked(), numbered(known), set(starts)
     for path in files:
         for line in lines_of(path):
             entry = entry_of(line)
             if entry is None:
-                seen.rest = line.data if seen.rest is None else seen.rest + b"\n" + line.data
+                checked.rest = line.data if checked.rest is None else checked.rest + b"\n" + line.data
                 continue
-            if seen.lines == 0:
+            if checked.lines == 0:
                 begin(line, entry, after)
-                seen.first = int(entry["line"])
+                checked.first = int(entry["line"])
             else:
-                follow(line, entry, seen)
-            if seen.lines or seen.rest is not None:
-                between(line, entry, seen)
-            compare_times(line, entry, seen)
-            seen.head = Head(int(entry["line"]), digest(line.data))
-            seen.rest, seen.lines = None, seen.lines + 1
-            compare_head(line, seen, waiting)
-    seen.missed = [Head(line, it) for line, those in sorted(waiting.items()) for it in sorted(those)]
-    if late := [it for it in seen.missed if it.line > seen.head.line]:
+                follow(line, entry, checked)
+            if checked.lines or checked.rest is not None:
+                between(line, entry, checked)
+            compare_times(line, entry, checked)
+            checked.head = Head(int(entry["line"]), digest(line.data))
+            checked.rest, checked.lines = None, checked.lines + 1
+            compare_head(line, checked, waiting)
+    checked.missed = [Head(line, head) for line, digests in sorted(waiting.items()) for head in sorted(digests)]
+    if late := [head for head in checked.missed if head.line > checked.head.line]:
         raise Refused(1, f"line {late[0].line} was written down and is not there: the journal ends with line "
-                         f"{seen.head.line}, so its end was cut")
-    return seen
+                         f"{checked.head.line}, so its end was cut")
+    return checked
 
 
 def numbered(heads: Iterable[Head]) -> dict[int, set[str]]:
     """Sorts heads by their lines. One line may have been written down in two ways, of which one is wrong."""
     by_line: dict[int, set[str]] = {}
-    for it in heads:
-        by_line.setdefault(it.line, set()).add(it.sha256)
+    for head in heads:
+        by_line.setdefault(head.line, set()).add(head.sha256)
     return by_line
 
 
@@ -95,9 +95,9 @@ def file_before(entry: Json) -> str:
     return f"; they ended with the file {after.get('file')} of {after.get('bytes')} bytes" if isinstance(after, dict) else ""
 
 
-def follow(line: Line, entry: Json, seen: Checked) -> None:
+def follow(line: Line, entry: Json, checked: Checked) -> None:
     """Compares a line with the one before it."""
-    number, before = int(entry["line"]), seen.head
+    number, before = int(entry["line"]), checked.head
     if number > before.line + 1:
         raise Refused(1, f"{line.where()}: after line {before.line} comes line {number}: lines were cut out")
     if number <= before.line:
@@ -107,25 +107,26 @@ def follow(line: Line, entry: Json, seen: Checked) -> None:
                          f"{number} names")
 
 
-def between(line: Line, entry: Json, seen: Checked) -> None:
+def between(line: Line, entry: Json, checked: Checked) -> None:
     """Compares what lies before a line with what the line says of it."""
-    wanted = None if seen.rest is None else text_of(torn(seen.rest))
+    wanted = None if checked.rest is None else text_of(torn(checked.rest))
     named = text_of(entry["torn"]) if "torn" in entry else None
     if named != wanted:
-        raise Refused(1, f"{line.where()}: between line {seen.head.line} and line {entry['line']} are other bytes "
+        raise Refused(1, f"{line.where()}: between line {checked.head.line} and line {entry['line']} are other bytes "
                          "than this line names: they were added, changed or cut")
 
 
-def compare_times(line: Line, entry: Json, seen: Checked) -> None:
+def compare_times(line: Line, entry: Json, checked: Checked) -> None:
     """Notes a time stamp that is before that of the line before, and a line that has none."""
     moment = moment_of(entry)
     if moment is None:
-        seen.falls.append(f"{line.where()}: line {entry['line']} has no time stamp")
+        checked.falls.append(f"{line.where()}: line {entry['line']} has no time stamp")
         return
-    if seen.moment is not None and moment < seen.moment - MOST_BACK:
-        back = datetime.timedelta(seconds=round(seen.moment - moment))
-        seen.falls.append(f"{line.where()}: line {entry['line']} is of {entry['at']}, {back} before line {seen.head.line}")
-    seen.moment = moment
+    if checked.moment is not None and moment < checked.moment - MOST_BACK:
+        back = datetime.timedelta(seconds=round(checked.moment - moment))
+        checked.falls.append(f"{line.where()}: line {entry['line']} is of {entry['at']}, {back} before line "
+                             f"{checked.head.line}")
+    checked.moment = moment
 
 
 def moment_of(entry: Json) -> float | None:
@@ -136,12 +137,12 @@ def moment_of(entry: Json) -> float | None:
         return None
 
 
-def compare_head(line: Line, seen: Checked, waiting: dict[int, set[str]]) -> None:
+def compare_head(line: Line, checked: Checked, waiting: dict[int, set[str]]) -> None:
     """Compares a line with the heads that were written down of it."""
-    wanted = waiting.pop(seen.head.line, None)
+    wanted = waiting.pop(checked.head.line, None)
     if wanted is None:
         return
-    if wanted != {seen.head.sha256}:
-        raise Refused(1, f"{line.where()}: line {seen.head.line} is another than the one whose SHA-256 was written down: "
-                         "somebody wrote the journal anew from there on, or from before")
-    seen.compared += 1
+    if wanted != {checked.head.sha256}:
+        raise Refused(1, f"{line.where()}: line {checked.head.line} is another than the one whose SHA-256 was written "
+                         "down: somebody wrote the journal anew from there on, or from before")
+    checked.met.append(checked.head)

@@ -107,7 +107,7 @@ class Clock:
         self.news: dict[str, object] | None = None
 
     def is_believed(self) -> bool:
-        """Whether acts may go by the clock as it is now."""
+        """Returns whether acts may go by the clock as it is now."""
         current = now()
         if self.synchronised():
             self.believe(current, "synchronised")
@@ -124,9 +124,9 @@ class Clock:
         return True
 
     def takes_word(self, current: Moment) -> bool:
-        """Whether a person said that the clock is right, and it has gone since as the machine counts."""
-        said = read(self.word)
-        if said is None or doubt(said, current):
+        """Returns whether a person said that the clock is right, and it has gone since as the machine counts."""
+        word = read(self.word)
+        if word is None or doubt(word, current):
             return False
         self.word.unlink(missing_ok=True)
         self.is_doubted = True

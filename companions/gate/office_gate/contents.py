@@ -15,6 +15,7 @@ from pathlib import Path
 from office_gate.body import Json, Number, text_of
 from office_gate.chain import digest
 from office_gate.errors import Answered, say
+from office_gate.words import DENIED
 
 LONGEST = 4096
 """of a longer text in another member the journal has the length and the digest"""
@@ -78,11 +79,11 @@ class Contents:
     def prune(self, days: int) -> None:
         """Overwrites and removes the files whose days are over."""
         last = (datetime.datetime.now(datetime.UTC).date() - datetime.timedelta(days)).isoformat()
-        for it in sorted(self.folder.glob("????-??-??")):
-            if it.name < last:
-                done = subprocess.run(["shred", "--iterations=1", "--remove", "--", str(it)], check=False)
+        for folder in sorted(self.folder.glob("????-??-??")):
+            if folder.name < last:
+                done = subprocess.run(["shred", "--iterations=1", "--remove", "--", str(folder)], check=False)
                 if done.returncode:
-                    say(f"{it} is not removed")
+                    say(f"{folder} is not removed")
 
 
 def free(file: int, at: int, length: int) -> None:
@@ -93,49 +94,51 @@ def free(file: int, at: int, length: int) -> None:
 
 def require(folders: tuple[Path, ...], length: int, reserve: int) -> None:
     """Refuses what would leave less than the reserve of a disk, so that holds, which are short, still get through."""
-    for it in folders:
-        found = os.statvfs(it)
-        if found.f_bavail * found.f_frsize < length + reserve:
+    for folder in folders:
+        disk = os.statvfs(folder)
+        if disk.f_bavail * disk.f_frsize < length + reserve:
             raise Answered(503, "room")
 
 
 def changed_nothing(answer: object) -> bool:
-    """Whether an act was refused, or had been done before."""
+    """Returns whether an act was refused, or had been done before."""
     return isinstance(answer, dict) and ("refused" in answer or answer.get("same") is True)
 
 
 def is_unneeded(answered: Json, place: int) -> bool:
-    """Whether the content at a place of a list was not taken, by the answer to the list."""
+    """Returns whether the content at a place of a list was not taken, by the answer to the list."""
     if not answered.get("known", True):
         return False
-    if answered["status"] not in (200, 409):
-        return True
     answers = answered.get("answers")
-    return isinstance(answers, list) and place < len(answers) and changed_nothing(answers[place])
+    answer = answers[place] if isinstance(answers, list) and place < len(answers) else None
+    if answered["status"] == DENIED:
+        # the acts before the one that the office denied are done
+        return answer is None or changed_nothing(answer)
+    return answered["status"] not in (200, 409) or changed_nothing(answer)
 
 
 def unneeded(acts: list[Json], begin: int, answered: Json) -> list[Span]:
     """Lists where the contents are that the office did not take, of a list whose first content is at `begin`."""
-    found: list[Span] = []
+    spans: list[Span] = []
     for place, (at, length) in spans_of(acts, begin).items():
         if not is_unneeded(answered, place):
             continue
-        if found and sum(found[-1]) == at:
-            found[-1] = (found[-1][0], found[-1][1] + length)
+        if spans and sum(spans[-1]) == at:
+            spans[-1] = (spans[-1][0], spans[-1][1] + length)
         else:
-            found.append((at, length))
-    return found
+            spans.append((at, length))
+    return spans
 
 
 def spans_of(acts: list[Json], begin: int) -> dict[int, Span]:
     """Returns where the content of each act is, by its place in the list, as the journal has the acts."""
-    found, at = {}, begin
+    spans, at = {}, begin
     for place, act in enumerate(acts):
         content = act.get("content")
         if isinstance(content, dict) and "bytes" in content:
-            found[place] = (at, int(str(content["bytes"])))
-            at += found[place][1]
-    return found
+            spans[place] = (at, int(str(content["bytes"])))
+            at += spans[place][1]
+    return spans
 
 
 def decoded(text: object) -> bytes | None:
@@ -152,17 +155,17 @@ def decoded(text: object) -> bytes | None:
 def noted(acts: list[Json]) -> tuple[list[Json], list[bytes]]:
     """Returns the acts as the journal has them, and the contents that it leaves out."""
     parts: list[bytes] = []
-    found = []
+    entries = []
     for act in acts:
-        it = dict(act)
+        entry = dict(act)
         for name, value in act.items():
             if name == "content" and (data := decoded(value)) is not None:
-                it[name] = {"bytes": len(data), "sha256": digest(data)}
+                entry[name] = {"bytes": len(data), "sha256": digest(data)}
                 parts.append(data)
             elif name == "content" or not is_short(value):
-                it[name] = shortened(value)
-        found.append(it)
-    return found, parts
+                entry[name] = shortened(value)
+        entries.append(entry)
+    return entries, parts
 
 
 def is_short(value: object) -> bool:

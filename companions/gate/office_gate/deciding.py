@@ -16,7 +16,7 @@ DAY = re.compile(r"\d\d\d\d-\d\d-\d\d", re.ASCII)
 
 
 @dataclass(frozen=True)
-class Asked:
+class Caller:
     """Who asks, from where and why."""
 
     person: Person
@@ -85,15 +85,15 @@ async def days(access: Access, person: Person, acts: list[Json]) -> list[int]:
     return earlier
 
 
-def reason(access: Access, asked: Asked, kind: str, place: int | None = None) -> None:
-    if kind in access.rules.reasons and not asked.reason:
+def reason(access: Access, caller: Caller, kind: str, place: int | None = None) -> None:
+    if kind in access.rules.reasons and not caller.reason:
         where = {} if place is None else {"place": place}
         raise Answered(400, "reason", act=kind, **where)
 
 
-async def reasons(access: Access, asked: Asked, acts: list[Json]) -> None:
+async def reasons(access: Access, caller: Caller, acts: list[Json]) -> None:
     async for place, act in each(acts):
-        reason(access, asked, act["act"], place)
+        reason(access, caller, act["act"], place)
 
 
 async def classes(person: Person, acts: list[Json], scopes: Scopes) -> None:
@@ -113,8 +113,8 @@ async def classes(person: Person, acts: list[Json], scopes: Scopes) -> None:
             raise Answered(403, "class", act=kind, place=place)
 
 
-def resume(access: Access, asked: Asked) -> None:
+def resume(access: Access, caller: Caller) -> None:
     """Refuses to carry out a run without the right to it."""
-    if not asked.person.may_all(RESUME):
+    if not caller.person.may_all(RESUME):
         raise Answered(403, "right", act=RESUME)
-    reason(access, asked, RESUME)
+    reason(access, caller, RESUME)

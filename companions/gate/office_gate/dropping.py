@@ -84,9 +84,9 @@ def appended(journal: Path) -> Iterator[int]:
 def like(path: Path, file: int) -> None:
     """Gives a file the group and the mode of another one, as far as this user may."""
     with contextlib.suppress(OSError):
-        seen = path.stat()
-        os.fchown(file, -1, seen.st_gid)
-        os.fchmod(file, seen.st_mode & 0o640)
+        state = path.stat()
+        os.fchown(file, -1, state.st_gid)
+        os.fchmod(file, state.st_mode & 0o640)
 
 
 def mark(path: Path, how: str) -> None:

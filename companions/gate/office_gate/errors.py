@@ -2,19 +2,15 @@
 import contextlib
 import sys
 
+from office_common.errors import Refused
+
+__all__ = ["Answered", "Refused", "say"]
+
 
 def say(text: str) -> None:
     """Prints a line for the journal of systemd. A disk that does not take it stops nothing."""
     with contextlib.suppress(OSError):
         print(f"office-gate: {text}", file=sys.stderr, flush=True)
-
-
-class Refused(Exception):
-    """Ends a command: 1 something is wrong, 2 somebody has to look first, 3 a later start may succeed."""
-
-    def __init__(self, status: int, text: str) -> None:
-        super().__init__(text)
-        self.status = status
 
 
 class Answered(Exception):

@@ -89,7 +89,7 @@ class Eyes:
                 await self.opened(person, str(act.get("day")), place)
 
     def looks(self) -> bool:
-        """Whether a rule looks at the records that a run may take."""
+        """Returns whether a rule looks at the records that a run may take."""
         return self.rules.confirmer_does_not_open or self.rules.changer_days is not None
 
     def asks_of_records(self) -> bool:
@@ -97,7 +97,7 @@ class Eyes:
         return self.looks() or self.rules.receiver_does_not_open
 
     def decides(self, act: Json) -> bool:
-        """Whether an act is none for whoever opens a run, or has a part in the one that is open."""
+        """Returns whether an act is none for whoever opens a run, or has a part in the one that is open."""
         if act["act"] == "receipt":
             return self.rules.receiver_does_not_open
         if act["act"] in DECISIONS:
@@ -186,8 +186,8 @@ class Eyes:
     # ---- what the office reports
 
     async def record(self, person: Person, number: int, statuses: tuple[int, ...] = (200,)) -> Json:
-        found: Json = (await self.read(person, f"/records/{number}", statuses)).json()
-        return found
+        record: Json = (await self.read(person, f"/records/{number}", statuses)).json()
+        return record
 
     async def read(self, person: Person, path: str, statuses: tuple[int, ...]) -> Answer:
         """Reads something of now; another answer than these decides nothing."""

@@ -11,7 +11,7 @@ from pathlib import Path
 from office_gate.body import Json, number_in
 from office_gate.catalogue import Aggregations
 from office_gate.chain import Head
-from office_gate.errors import Refused, say
+from office_gate.derived import open_derived
 from office_gate.possession import Files
 from office_gate.scopes import text
 from office_gate.words import GIVES, OF_RECORD
@@ -45,8 +45,8 @@ def is_none_open(answer: object) -> bool:
 
 def answer_at(answers: object, place: int) -> Json | None:
     """Returns the answer to an act, or None if there is none."""
-    found = answers[place] if isinstance(answers, list) and place < len(answers) else None
-    return found if isinstance(found, dict) else None
+    answer = answers[place] if isinstance(answers, list) and place < len(answers) else None
+    return answer if isinstance(answer, dict) else None
 
 
 def thing_of(act: Json) -> str | None:
@@ -106,27 +106,15 @@ class Facts:
         # what does not change any more, once the office has reported it: what a run sent, and what a run ended
         self.sent: dict[int, frozenset[int]] = {}
         self.gone: set[int] = set()
-        try:
-            self.db = opened(path)
-        except sqlite3.DatabaseError as error:
-            say(f"{path} is made anew: {error}")
-            self.db = self.made_anew(path)
+        self.db = open_derived(path, opened)
         self.files = Files(self.db)
         if self.files.is_new:
             # the journal has lines that an older gate did not take
             self.forget()
 
-    def made_anew(self, path: Path) -> sqlite3.Connection:
-        for end in ("", "-wal", "-shm"):
-            Path(f"{path}{end}").unlink(missing_ok=True)
-        try:
-            return opened(path)
-        except sqlite3.DatabaseError as error:
-            raise Refused(3, f"{path}: {error}") from error
-
     def folded(self) -> Head | None:
-        found = self.db.execute("SELECT line, sha256 FROM folded").fetchone()
-        return Head(*found) if found else None
+        row = self.db.execute("SELECT line, sha256 FROM folded").fetchone()
+        return Head(*row) if row else None
 
     def forget(self) -> None:
         for table in ("folded", "touches", "aggregations", "runs", "parts", "closed", "days"):
@@ -146,19 +134,19 @@ class Facts:
 
     # ---- folding
 
-    def fold(self, asked: Json, answered: Json, line: int, at: float) -> None:
+    def fold(self, request: Json, response: Json, line: int, at: float) -> None:
         """Takes what a request did, or may have done, of its two lines."""
-        if answered.get("repeated"):
+        if response.get("repeated"):
             # a member gave the answer of an earlier request: nothing was done now
             return
-        name, answers = str(asked["name"]), answered.get("answers")
-        if asked["request"] == "POST /run/resume":
-            self.stepped(answered.get("answer"), name, (line, 0, at), bool(answered.get("known", True)))
+        name, answers = str(request["name"]), response.get("answers")
+        if request["request"] == "POST /run/resume":
+            self.stepped(response.get("answer"), name, (line, 0, at), bool(response.get("known", True)))
             return
-        self.files.fold(asked, answers)
-        for place, act in enumerate(asked.get("acts") or []):
+        self.files.fold(request, answers)
+        for place, act in enumerate(request.get("acts") or []):
             answer = answer_at(answers, place)
-            if answer is None and answered.get("known", True):
+            if answer is None and response.get("known", True):
                 continue
             if answer is not None:
                 self.note_day(act.get("day"), answer)
@@ -255,8 +243,8 @@ class Facts:
 
     def closed_at(self) -> float:
         """Returns when the office last answered that a run was closed, or that none was open."""
-        found = self.db.execute("SELECT at FROM closed").fetchone()
-        return float(found[0]) if found else 0.0
+        row = self.db.execute("SELECT at FROM closed").fetchone()
+        return float(row[0]) if row else 0.0
 
     def parts(self, name: str) -> set[int | None]:
         """Lists the runs that a name opened or carried out. None is a run that is not known to be closed."""
@@ -266,19 +254,19 @@ class Facts:
 
     def received(self, name: str) -> list[int]:
         """Lists the records of which a name filed a receipt, or may have, but for those that are known to be ended."""
-        found = self.db.execute("SELECT DISTINCT thing FROM touches WHERE name = ? AND kind IN ('receipt', 'receipt?')",
-                                (name,))
-        return sorted({int(thing.removeprefix("record:")) for (thing,) in found} - self.gone, reverse=True)
+        rows = self.db.execute("SELECT DISTINCT thing FROM touches WHERE name = ? AND kind IN ('receipt', 'receipt?')",
+                               (name,))
+        return sorted({int(thing.removeprefix("record:")) for (thing,) in rows} - self.gone, reverse=True)
 
     def confirmers(self, record: int) -> set[str]:
         """Returns who confirmed a record last; more than one name if nobody knows whose was the last."""
-        found: set[str] = set()
+        names: set[str] = set()
         for name, kind in self.db.execute("SELECT name, kind FROM touches WHERE thing = ? AND kind IN ('confirm', "
                                           "'confirm?') ORDER BY line DESC", (f"record:{record}",)):
-            found.add(name)
+            names.add(name)
             if kind == "confirm":
                 break
-        return found
+        return names
 
     def confirmed(self, name: str) -> set[str]:
         """Lists what a name confirmed, or may have."""
@@ -287,6 +275,6 @@ class Facts:
 
     def touched(self, name: str, days: int) -> set[str]:
         """Lists what a name gave a schedule or a class within so many days."""
-        found = self.db.execute("SELECT DISTINCT rtrim(kind, '?'), thing FROM touches WHERE name = ? AND at > ?",
-                                (name, time.time() - days * 86400))
-        return {thing for kind, thing in found if kind in GIVES}
+        rows = self.db.execute("SELECT DISTINCT rtrim(kind, '?'), thing FROM touches WHERE name = ? AND at > ?",
+                               (name, time.time() - days * 86400))
+        return {thing for kind, thing in rows if kind in GIVES}

@@ -19,22 +19,22 @@ class Lines:
     """The field lines of a request. A line that is there twice is refused, if it is one that counts."""
 
     def __init__(self, raw: tuple[tuple[bytes, bytes], ...]) -> None:
-        self.found: dict[str, list[str]] = {}
+        self.values: dict[str, list[str]] = {}
         for name, value in raw:
-            self.found.setdefault(name.decode("latin-1").lower(), []).append(value.decode("utf-8", "replace").strip(" \t"))
+            self.values.setdefault(name.decode("latin-1").lower(), []).append(value.decode("utf-8", "replace").strip(" \t"))
 
     def one(self, name: str) -> str:
-        values = self.found.get(name.lower(), [])
+        values = self.values.get(name.lower(), [])
         if len(values) > 1:
             raise Answered(400, "header")
         return values[0] if values else ""
 
     def first(self, name: str) -> str:
         """Returns a line for the journal, which has also what is refused."""
-        return self.found.get(name.lower(), [""])[0]
+        return self.values.get(name.lower(), [""])[0]
 
     def has(self, name: str) -> bool:
-        return name.lower() in self.found
+        return name.lower() in self.values
 
 
 def is_from_nginx(gate: Gate, lines: Lines) -> bool:
@@ -66,7 +66,7 @@ def length(lines: Lines) -> int:
     """Returns how many bytes come, by the rules that the office has for a body."""
     if lines.has("Transfer-Encoding"):
         raise Answered(501, "coding")
-    values = lines.found.get("content-length", [])
+    values = lines.values.get("content-length", [])
     if not values:
         raise Answered(411, "length")
     if len(values) > 1 or not re.fullmatch("[0-9]{1,19}", values[0]):
@@ -89,7 +89,7 @@ def reason(lines: Lines) -> str:
 
 def passed(lines: Lines) -> Mapping[str, str]:
     """Returns the lines that go on to a member of an office on several machines."""
-    found = {name: lines.one(name) for name in PASSED_LINES}
-    if any(len(it) > MOST_REASON or not it.isprintable() for it in found.values()):
+    values = {name: lines.one(name) for name in PASSED_LINES}
+    if any(len(it) > MOST_REASON or not it.isprintable() for it in values.values()):
         raise Answered(400, "header")
-    return {name: value for name, value in found.items() if value}
+    return {name: value for name, value in values.items() if value}

@@ -9,7 +9,7 @@ from typing import Any
 
 from office_gate.acts_index import ActsIndex, Row
 from office_gate.body import Json
-from office_gate.deciding import Asked
+from office_gate.deciding import Caller
 from office_gate.errors import Answered
 from office_gate.gate import Gate
 from office_gate.office import Answer
@@ -51,32 +51,32 @@ def moment_before(text: str) -> str:
 class Sight:
     """What a name may know of acts, by the classes of what they are about: it needs a right to each of these things."""
 
-    def __init__(self, gate: Gate, asked: Asked, things: tuple[str, ...]) -> None:
-        self.person, self.words = asked.person, [f"read {it}" for it in things]
-        self.scopes = Scopes(gate.aggregations(), partial(gate.office.record, asked.person.name))
+    def __init__(self, gate: Gate, caller: Caller, things: tuple[str, ...]) -> None:
+        self.person, self.rights = caller.person, [f"read {it}" for it in things]
+        self.scopes = Scopes(gate.aggregations(), partial(gate.office.record, caller.person.name))
 
     def is_whole(self) -> bool:
-        return all(map(self.person.may_all, self.words))
+        return all(map(self.person.may_all, self.rights))
 
     def covers(self, code: str | None, status: str | None = None) -> bool:
-        return all(self.person.may_in(it, code, status) for it in self.words)
+        return all(self.person.may_in(it, code, status) for it in self.rights)
 
     async def sees(self, row: Row) -> bool:
-        """Whether all that an act is about lies in classes of the name."""
+        """Returns whether all that an act is about lies in classes of the name."""
         return self.is_whole() or all(map(self.covers, await self.scope(row)))
 
     async def scope(self, row: Row) -> Scope:
-        """The classes of an act, and what its record or aggregation has by now if the act made it."""
-        found = await self.scopes.of({"act": row.kind, **row.act})
+        """Returns the classes of an act, and what its record or aggregation has by now if the act made it."""
+        scope = await self.scopes.of({"act": row.kind, **row.act})
         number = row.answer.get("number") if isinstance(row.answer, dict) else None
         if row.kind == "add-record" and number:
-            found.append(await self.scopes.class_of_record(number))
+            scope.append(await self.scopes.class_of_record(number))
         if row.kind == "add-aggregation" and number:
-            found.append(self.scopes.class_of(number))
-        return found
+            scope.append(self.scopes.class_of(number))
+        return scope
 
     def known(self, code: object) -> object:
-        """A code of a class, if the name may know it."""
+        """Returns a code of a class, if the name may know it."""
         return code if self.is_whole() or code is None or self.covers(text(code)) else None
 
     def act_of(self, row: Row) -> Json:
@@ -95,8 +95,8 @@ class Sight:
 class History:
     """The two readings of one name."""
 
-    def __init__(self, gate: Gate, asked: Asked) -> None:
-        self.gate, self.asked, self.person = gate, asked, asked.person
+    def __init__(self, gate: Gate, caller: Caller) -> None:
+        self.gate, self.caller, self.person = gate, caller, caller.person
 
     async def index(self) -> ActsIndex:
         """Returns the acts of the journal up to now."""
@@ -111,21 +111,21 @@ class History:
 
     async def about(self, path: str) -> Answer:
         need(self.person, "history")
-        found = QUESTION.fullmatch(path)
-        if not found:
+        match = QUESTION.fullmatch(path)
+        if not match:
             raise Answered(404, "path")
-        thing, name = [it for it in found.groups()[:6] if it]
-        sight = Sight(self.gate, self.asked, ("history", "records"))
+        thing, name = [it for it in match.groups()[:6] if it]
+        sight = Sight(self.gate, self.caller, ("history", "records"))
         things = [f"{thing}:{name}", *await self.admitted(sight, thing, name)]
-        before = place_of(found[7], found[8], LAST)
-        if found[7] and not found[8]:
+        before = place_of(match[7], match[8], LAST)
+        if match[7] and not match[8]:
             before = (before[0], LAST[0])
         index = await self.index()
         rows = await asyncio.to_thread(index.of_name, name, before, MOST + 1) if thing == "name" else \
             await asyncio.to_thread(index.about, things, before, MOST + 1)
-        seen = [self.row(it, sight) for it in rows[:MOST] if thing == "record" or await sight.sees(it)]
+        shown = [self.row(it, sight) for it in rows[:MOST] if thing == "record" or await sight.sees(it)]
         begins = await asyncio.to_thread(index.begins)
-        return answer_of({"rows": seen, "next": next_of(rows, MOST), "begins": begins})
+        return answer_of({"rows": shown, "next": next_of(rows, MOST), "begins": begins})
 
     async def admitted(self, sight: Sight, thing: str, name: str) -> list[str]:
         """Refuses a thing of a foreign class. Returns what belongs to its history beside it: the run that ended it."""
@@ -143,26 +143,26 @@ class History:
 
     def row(self, row: Row, sight: Sight) -> Json:
         person = self.gate.access.people.get(row.name)
-        found = {"line": row.line, "place": row.place, "at": row.at, "name": row.name, "kind": row.kind,
+        shown = {"line": row.line, "place": row.place, "at": row.at, "name": row.name, "kind": row.kind,
                  "by": person.signs if person else row.name, "act": sight.act_of(row), "reason": row.reason,
                  "status": row.status, "known": row.known, "answer": row.answer}
-        return found | {"change": sight.change_of(row)} if row.change else found
+        return shown | {"change": sight.change_of(row)} if row.change else shown
 
     # ---- what was done since the catalogue
 
     async def since(self, path: str) -> Answer:
         need(self.person, "catalogue")
-        found = SINCE.fullmatch(path)
-        if not found:
+        match = SINCE.fullmatch(path)
+        if not match:
             raise Answered(404, "path")
-        begin, after = moment_before(found[1]), place_of(found[2], found[3], (0, 0))
-        sight = Sight(self.gate, self.asked, ("catalogue",))
+        begin, after = moment_before(match[1]), place_of(match[2], match[3], (0, 0))
+        sight = Sight(self.gate, self.caller, ("catalogue",))
         index = await self.index()
         rows = await asyncio.to_thread(index.since, begin, after, MOST_SINCE + 1)
-        seen = [self.deed(it, sight) for it in rows[:MOST_SINCE] if await sight.sees(it)]
+        shown = [self.deed(it, sight) for it in rows[:MOST_SINCE] if await sight.sees(it)]
         looked = rows[:MOST_SINCE]
         last = mark_of(looked[-1]) if looked else f"{after[0]}.{after[1]}"
-        return answer_of({"rows": seen, "last": last, "more": len(rows) > MOST_SINCE})
+        return answer_of({"rows": shown, "last": last, "more": len(rows) > MOST_SINCE})
 
     def deed(self, row: Row, sight: Sight) -> Json:
         answer: dict[str, Any] = row.answer if isinstance(row.answer, dict) else {}

@@ -21,15 +21,15 @@ NIGHT_HOURS = 20
 
 def heads_of_unit(unit: str) -> set[Head]:
     """Reads the heads that a gate printed, out of the journal of systemd. Without that there are none, which it says."""
-    words = ["journalctl", "--quiet", "--no-pager", "--output=cat", f"--unit={unit}"]
+    args = ["journalctl", "--quiet", "--no-pager", "--output=cat", f"--unit={unit}"]
     try:
-        seen = subprocess.run(words, capture_output=True, text=True, errors="replace", check=False)
+        output = subprocess.run(args, capture_output=True, text=True, errors="replace", check=False)
     except OSError as error:
         print(f"no heads of {unit}: {error}")
         return set()
-    lines = [it for it in seen.stdout.splitlines() if it.startswith("office-gate: head ")]
+    lines = [it for it in output.stdout.splitlines() if it.startswith("office-gate: head ")]
     if not lines:
-        print(f"no heads of {unit} in the journal of systemd {seen.stderr.strip()}".rstrip())
+        print(f"no heads of {unit} in the journal of systemd {output.stderr.strip()}".rstrip())
     return heads_in("\n".join(lines))
 
 
@@ -61,19 +61,19 @@ def checked(journal: Path, known: set[Head]) -> Checked:
     return check(files, known | gone, gone)
 
 
-def replay_of(it: argparse.Namespace, folder: str) -> argparse.Namespace | None:
+def replay_of(options: argparse.Namespace, folder: str) -> argparse.Namespace | None:
     """Returns what `replay` is asked for, or None if there are no two copies yet."""
-    copies = two_of(it.copies)
+    copies = two_of(options.copies)
     if len(copies) < 2:
-        print(f"copies in {it.copies}: {len(copies)}. Nothing is replayed before there are two")
+        print(f"copies in {options.copies}: {len(copies)}. Nothing is replayed before there are two")
         return None
     print(f"replayed: {copies[0].name} up to {copies[1].name}")
-    return argparse.Namespace(journal=it.journal, copy=copies[0], new=Path(folder) / "new.db", state=it.state, moment=None,
-                              until=None, beside=copies[1], contents=[])
+    return argparse.Namespace(journal=options.journal, copy=copies[0], new=Path(folder) / "new.db", state=options.state,
+                              moment=None, until=None, beside=copies[1], contents=[])
 
 
 def room(work: Path) -> tempfile.TemporaryDirectory[str]:
     """Makes a folder for copies of the office. What a check left that was cut off goes first."""
-    for it in work.glob(f"{ROOM}*"):
-        shutil.rmtree(it, ignore_errors=True)
+    for folder in work.glob(f"{ROOM}*"):
+        shutil.rmtree(folder, ignore_errors=True)
     return tempfile.TemporaryDirectory(prefix=ROOM, dir=work)

@@ -1,4 +1,8 @@
-"""The office behind the gate: one request, one answer. While the office restarts, requests wait."""
+"""The office behind the gate: one request, one answer. While the office restarts, requests wait.
+
+An office that decides too gets lines that state who asks: the name that signed in, or the reader for the gate's own
+questions.
+"""
 import asyncio
 import json
 import time
@@ -6,7 +10,8 @@ from dataclasses import dataclass, field
 from typing import Any
 
 from office_gate import asking
-from office_gate.errors import Answered, Refused
+from office_gate.errors import Answered, Refused, say
+from office_gate.stating import Stating
 from office_gate.turns import Turns
 
 WAIT_SECONDS = 120.0
@@ -54,6 +59,8 @@ class Office:
             raise Refused(2, f"--office '{address}' is no HOST:PORT")
         self.address, self.at = address, (host, int(port))
         self.turns = Turns(AT_ONCE)
+        # what states who asks, to an office that decides too
+        self.stating: Stating | None = None
         # whether the last answer was that of a member, or None before the first one
         self.answers_as_member: bool | None = None
 
@@ -63,9 +70,23 @@ class Office:
             await self.get(name, "/certificates/0")
         return bool(self.answers_as_member)
 
+    def stated(self, name: str | None) -> dict[str, str]:
+        """Returns the lines that state a name, or the gate itself; none to an office that does not decide."""
+        if self.stating is None:
+            return {}
+        return self.stating.lines(self.stating.reader if name is None else name)
+
     async def get(self, name: str, path: str, lines: dict[str, str] | None = None) -> Answer:
+        """Asks for what the gate itself has to know, in the turn of a name."""
+        return await self.read(name, path, (lines or {}) | self.stated(None))
+
+    async def get_for(self, name: str, path: str, lines: dict[str, str]) -> Answer:
+        """Reads something for a name."""
+        return await self.read(name, path, lines | self.stated(name))
+
+    async def read(self, name: str, path: str, lines: dict[str, str]) -> Answer:
         """Reads something. A reading is asked again if its answer was lost."""
-        return await self.asked(name, asking.request("GET", self.address, path, None, lines or {}), ends_of())
+        return await self.answer_to(name, asking.request("GET", self.address, path, None, lines), ends_of())
 
     async def record(self, name: str, number: int) -> Any:
         """Returns what the office reports of a record, or None if there is none."""
@@ -75,23 +96,27 @@ class Office:
         return answer.json() if answer.status == 200 else None
 
     async def post(self, name: str, path: str, body: bytes | None, lines: dict[str, str], ends: float) -> Answer:
-        """Sends what acts, once, up to that moment at the latest."""
-        return await self.asked(name, asking.request("POST", self.address, path, body, lines), ends)
+        """Sends what acts for a name, once, up to that moment at the latest."""
+        request = asking.request("POST", self.address, path, body, lines | self.stated(name))
+        return await self.answer_to(name, request, ends)
 
-    async def asked(self, name: str, sent: asking.Request, ends: float) -> Answer:
+    async def answer_to(self, name: str, request: asking.OfficeRequest, ends: float) -> Answer:
         while True:
             async with self.turns.turn(name, ends):
-                answer = await self.once(sent, sent.head.method == b"GET")
+                answer = await self.once(request, request.head.method == b"GET")
+            if answer is not None and is_unstated(answer):
+                say("the office does not know this gate (403 token): compare --office-token with the secret of the office")
+                raise Answered(503, "office")
             if answer is not None and not is_closed(answer):
                 return answer
             if time.monotonic() >= ends:
                 raise Answered(503, "office")
             await asyncio.sleep(TRY_SECONDS)
 
-    async def once(self, sent: asking.Request, is_reading: bool) -> Answer | None:
+    async def once(self, request: asking.OfficeRequest, is_reading: bool) -> Answer | None:
         """Sends a request once. None says that nothing was done, or that it was a reading."""
         try:
-            found = await asking.ask(self.at, sent, ANSWER_SECONDS)
+            reply = await asking.ask(self.at, request, ANSWER_SECONDS)
         except asking.Away:
             return None
         except TimeoutError as error:
@@ -100,10 +125,10 @@ class Office:
             return UNKNOWN
         except asking.Lost:
             return None if is_reading else UNKNOWN
-        self.answers_as_member = "office-age" in found.lines
-        back = {it: found.lines[it.lower()] for it in BACK_LINES if it.lower() in found.lines}
-        is_known = is_reading or not is_lost(found.status, found.body)
-        return Answer(found.status, found.body, found.lines.get("content-type", "application/json"), back, is_known)
+        self.answers_as_member = "office-age" in reply.lines
+        back = {it: reply.lines[it.lower()] for it in BACK_LINES if it.lower() in reply.lines}
+        is_known = is_reading or not is_lost(reply.status, reply.body)
+        return Answer(reply.status, reply.body, reply.lines.get("content-type", "application/json"), back, is_known)
 
 
 def word_of(data: bytes) -> str | None:
@@ -115,10 +140,15 @@ def word_of(data: bytes) -> str | None:
 
 
 def is_closed(answer: Answer) -> bool:
-    """Whether office-serve says that FILE could not be opened: nothing was done."""
+    """Returns whether office-serve says that FILE could not be opened: nothing was done."""
     return answer.status == 503 and word_of(answer.body) == "closed"
 
 
+def is_unstated(answer: Answer) -> bool:
+    """Returns whether the office that decides too does not take the lines of this gate: nothing was done."""
+    return answer.status == 403 and word_of(answer.body) == "token"
+
+
 def is_lost(status: int, data: bytes) -> bool:
-    """Whether acts may be done that the answer does not name."""
+    """Returns whether acts may be done that the answer does not name."""
     return status >= 500 and word_of(data) in ("unknown", "memory", "time", "office")

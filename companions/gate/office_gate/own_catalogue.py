@@ -5,12 +5,12 @@ import gzip
 import hashlib
 import json
 import shutil
-import zlib
 from collections import Counter
 from collections.abc import Callable, Iterator
 from pathlib import Path
 from typing import Any
 
+from office_common.catalogue import FAILURES, data_of
 from office_gate.access import Person
 from office_gate.body import Json
 from office_gate.catalogue import Aggregations
@@ -34,7 +34,7 @@ class Part:
     """One file of the whole catalogue."""
 
     def __init__(self, folder: Path, name: str) -> None:
-        self.text = gzip.decompress((folder / f"{name}.json.gz").read_bytes()).decode()
+        self.text = data_of(folder / f"{name}.json.gz").decode()
         mark = f'"{name}":['
         self.begins = self.text.index(mark) + len(mark)
         self.moment = json.loads(self.text[:self.begins] + "]}")["moment"]
@@ -69,11 +69,11 @@ class Making:
         return Part(self.whole, name)
 
     def is_moved(self, aggregation: int) -> bool:
-        """Whether an aggregation, or one that it lies in, may have another class than the catalogue says."""
+        """Returns whether an aggregation, or one that it lies in, may have another class than the catalogue says."""
         return any(f"aggregation:{it}" in self.moved for it in self.known.chain(aggregation))
 
     def has(self, aggregation: int | None) -> bool:
-        """Whether an aggregation is of the name's classes."""
+        """Returns whether an aggregation is of the name's classes."""
         return aggregation is not None and self.covers(self.known.class_of(aggregation)) \
             and not self.is_moved(aggregation)
 
@@ -185,7 +185,7 @@ class OwnCatalogues:
                                 aggregations, moved)
                 try:
                     await asyncio.to_thread(self.make, making, place)
-                except (OSError, ValueError, KeyError, TypeError, IndexError, zlib.error) as error:
+                except (*FAILURES, IndexError) as error:
                     # an older program made less of a catalogue, or a newer one is being put in its place
                     raise Answered(404, "path") from error
             return await asyncio.to_thread((place / f"{name}.json.gz").read_bytes)
@@ -207,6 +207,6 @@ class OwnCatalogues:
     def tidy(self, kept: Path) -> None:
         """Removes what no name has asked for in a day, as of names whose classes were changed."""
         now = datetime.datetime.now().timestamp()
-        for it in self.folder.iterdir():
-            if it != kept and now - it.stat().st_mtime > 86400:
-                shutil.rmtree(it, ignore_errors=True)
+        for folder in self.folder.iterdir():
+            if folder != kept and now - folder.stat().st_mtime > 86400:
+                shutil.rmtree(folder, ignore_errors=True)

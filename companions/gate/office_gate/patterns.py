@@ -9,5 +9,5 @@ def is_pattern(word: str) -> bool:
 
 
 def fits(patterns: tuple[str, ...], code: str) -> bool:
-    """Whether a code is one of these, or begins as one of these with a star does."""
+    """Returns whether a code is one of these, or begins as one of these with a star does."""
     return any(code.startswith(it[:-1]) if it.endswith("*") else code == it for it in patterns)

@@ -11,7 +11,7 @@ ROOM = 1 << 31
 
 
 @dataclass
-class Places:
+class Checkpoints:
     """The copies by the request before which each was made; of many some go, the older ones further apart."""
 
     player: Player
@@ -42,10 +42,10 @@ class Places:
         for it in [it for it in self.files if it > at]:
             self.drop(it)
 
-    def take(self, others: "Places") -> None:
+    def take(self, others: "Checkpoints") -> None:
         """Takes copies over."""
-        for it in self.files.keys() & others.files.keys():
-            self.drop(it)
+        for at in self.files.keys() & others.files.keys():
+            self.drop(at)
         self.files |= others.files
         others.files = {}
 

@@ -23,8 +23,8 @@ class Player:
         self.port = 0
 
     def start(self) -> None:
-        with socket.create_server(("127.0.0.1", 0)) as it:
-            self.port = it.getsockname()[1]
+        with socket.create_server(("127.0.0.1", 0)) as held:
+            self.port = held.getsockname()[1]
         # of a replay that the machine's end cuts off nothing is kept, so it needs half the syncs
         self.process = subprocess.Popen([self.program, "serve", str(self.file), str(self.port), "1000000"],
                                         stdout=subprocess.PIPE, stdin=subprocess.DEVNULL,
@@ -56,12 +56,12 @@ class Player:
         """Does acts, and returns their answers; None if the office does none of them, as of a list that is no list."""
         if not acts:
             return []
-        said = self.post("/acts", text_of(acts).encode())
-        if isinstance(said, list):
-            return said
-        if isinstance(said, dict) and said.get("error") in ("json", "act", "size"):
+        answers = self.post("/acts", text_of(acts).encode())
+        if isinstance(answers, list):
+            return answers
+        if isinstance(answers, dict) and answers.get("error") in ("json", "act", "size"):
             return None
-        raise Refused(3, f"the replay's office answers {text_of(said)}")
+        raise Refused(3, f"the replay's office answers {text_of(answers)}")
 
     def resume(self) -> object:
         return self.post("/run/resume", b"")

@@ -44,12 +44,12 @@ class Naming:
 
 def named_in(acts: list[Json]) -> list[Naming]:
     """Lists what the contents of acts name, as the vault's own reading of a manifest has it, slips included."""
-    found = []
+    namings = []
     for place, act in enumerate(acts):
         data = decoded(act.get("content")) if act["act"] == "add-record" else None
         if data and (names := manifest.keeps(data).names):
-            found.append(Naming(place, [digest for digest, _ in names]))
-    return found
+            namings.append(Naming(place, [digest for digest, _ in names]))
+    return namings
 
 
 class Files:
@@ -74,21 +74,21 @@ class Files:
         if at > time.time() - SWEPT:
             self.store(str(entry["name"]), str(entry["request"])[-64:], int(entry["bytes"]), at)
 
-    def fold(self, asked: Json, answers: object) -> None:
+    def fold(self, request: Json, answers: object) -> None:
         """Notes which records name the files of a request, of its line and its answers."""
-        for it in asked.get("files") or []:
-            answer = answers[it["place"]] if isinstance(answers, list) and it["place"] < len(answers) else None
+        for file in request.get("files") or []:
+            answer = answers[file["place"]] if isinstance(answers, list) and file["place"] < len(answers) else None
             if isinstance(answer, dict) and type(answer.get("number")) is int:
                 self.db.executemany("INSERT OR IGNORE INTO named VALUES (?, ?)",
-                                    [(digest, answer["number"]) for digest in it["sha256"]])
+                                    [(digest, answer["number"]) for digest in file["sha256"]])
 
     def unnamed(self, name: str) -> int:
         """Returns how many bytes a name has in the vault that no record names, as far as the journal says."""
-        found: int = self.db.execute(UNNAMED, (name, time.time() - SWEPT)).fetchone()[0]
-        return found
+        count: int = self.db.execute(UNNAMED, (name, time.time() - SWEPT)).fetchone()[0]
+        return count
 
     def has(self, name: str, digest: str) -> bool:
-        """Whether a name put a file in within the grace."""
+        """Returns whether a name put a file in within the grace."""
         query = "SELECT 1 FROM stored WHERE digest = ? AND name = ? AND at > ?"
         return self.db.execute(query, (digest, name, time.time() - GRACE)).fetchone() is not None
 
@@ -103,21 +103,21 @@ class Possession:
 
     def __init__(self, files: Files, person: Person, asking: Asking) -> None:
         self.files, self.person, self.asking = files, person, asking
-        self.asked: dict[int, bool] = {}
+        self.readable: dict[int, bool] = {}
 
     async def judge(self, acts: list[Json]) -> list[Json]:
         """Refuses a content that names a file which is not the name's. Returns what the journal has of the files."""
-        if all(it["act"] != "add-record" for it in acts):
+        if all(act["act"] != "add-record" for act in acts):
             return []
-        found = await asyncio.to_thread(named_in, acts)
-        for it in found:
-            for digest in it.digests:
+        namings = await asyncio.to_thread(named_in, acts)
+        for naming in namings:
+            for digest in naming.digests:
                 if not self.files.has(self.person.name, digest) and not await self.may_read(digest):
-                    raise Answered(403, "file", place=it.place, sha256=digest)
-        return [{"place": it.place, "sha256": it.digests} for it in found]
+                    raise Answered(403, "file", place=naming.place, sha256=digest)
+        return [{"place": naming.place, "sha256": naming.digests} for naming in namings]
 
     async def may_read(self, digest: str) -> bool:
-        """Whether the name may read a file in some record that has its content."""
+        """Returns whether the name may read a file in some record that has its content."""
         if not self.person.may("read contents"):
             return False
         for number in self.files.records(digest):
@@ -126,10 +126,10 @@ class Possession:
         return False
 
     async def may_read_in(self, number: int) -> bool:
-        if number not in self.asked:
-            if len(self.asked) >= MOST_ASKED:
+        if number not in self.readable:
+            if len(self.readable) >= MOST_ASKED:
                 return False
             record = await self.asking(number)
-            self.asked[number] = record is not None and record["status"] != "ended" and \
+            self.readable[number] = record is not None and record["status"] != "ended" and \
                 self.person.may_in("read contents", record["class"], record["status"])
-        return self.asked[number]
+        return self.readable[number]

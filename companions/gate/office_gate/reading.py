@@ -7,7 +7,7 @@ from office_gate import deciding
 from office_gate.access import Person
 from office_gate.body import Json
 from office_gate.catalogue_reading import CATALOGUE, CatalogueReading
-from office_gate.deciding import Asked
+from office_gate.deciding import Caller
 from office_gate.errors import Answered
 from office_gate.gate import Gate
 from office_gate.history import History
@@ -42,12 +42,20 @@ def filtered(data: bytes, person: Person) -> bytes:
 class Reading:
     """One reading of one name."""
 
-    def __init__(self, gate: Gate, asked: Asked) -> None:
-        self.gate, self.asked, self.person = gate, asked, asked.person
+    def __init__(self, gate: Gate, caller: Caller) -> None:
+        self.gate, self.caller, self.person = gate, caller, caller.person
 
     async def office(self, path: str) -> Answer:
-        lines = {name: value for name, value in self.asked.lines.items() if name in KEYS}
-        return await self.gate.office.get(self.person.name, path, lines)
+        """Asks the office for the name."""
+        return await self.gate.office.get_for(self.person.name, path, self.passed())
+
+    def passed(self) -> dict[str, str]:
+        """Returns the lines that go on to a member."""
+        return {name: value for name, value in self.caller.lines.items() if name in KEYS}
+
+    async def own(self, path: str) -> Answer:
+        """Asks the office for what this gate has to know before it decides."""
+        return await self.gate.office.get(self.person.name, path, self.passed())
 
     async def answer(self, path: str) -> Answer:
         if path == "/rights":
@@ -57,21 +65,21 @@ class Reading:
         if path == "/metrics":
             need(self.person, "health")
             return Answer(200, self.metrics().encode(), "text/plain; version=0.0.4")
-        if found := RECORD.fullmatch(path):
-            return await self.record(int(found[1]))
-        if found := CONTENT.fullmatch(path):
-            await self.may_content(int(found[1]))
+        if match := RECORD.fullmatch(path):
+            return await self.record(int(match[1]))
+        if match := CONTENT.fullmatch(path):
+            await self.may_content(int(match[1]))
             return await self.office(path)
         if LIST.fullmatch(path):
             return await self.list(path)
         if CERTIFICATE.fullmatch(path):
             return await self.certificate(path)
         if path.startswith("/history"):
-            return await History(self.gate, self.asked).about(path)
+            return await History(self.gate, self.caller).about(path)
         if path.startswith("/since"):
-            return await History(self.gate, self.asked).since(path)
-        if found := CATALOGUE.fullmatch(path):
-            return await CatalogueReading(self.gate, self.asked).answer(found[1])
+            return await History(self.gate, self.caller).since(path)
+        if match := CATALOGUE.fullmatch(path):
+            return await CatalogueReading(self.gate, self.caller).answer(match[1])
         raise Answered(404, "path")
 
     # ---- the office's paths
@@ -92,7 +100,7 @@ class Reading:
         need(self.person, "contents")
         if self.person.may_all("read contents"):
             return
-        answer = await self.office(f"/records/{number}")
+        answer = await self.own(f"/records/{number}")
         if answer.status == 404:
             raise Answered(404, "content")
         if answer.status != 200:
@@ -126,7 +134,7 @@ class Reading:
             raise Answered(503, "clock")
         if self.gate.facts.office_day() > deciding.today(self.gate.access):
             raise Answered(503, "day")
-        answer = await self.office("/records/1")
+        answer = await self.own("/records/1")
         if answer.status == 200:
             return given({"records": True})
         raise Answered(answer.status, "record" if answer.status == 404 else "office")
@@ -149,8 +157,8 @@ class Reading:
         if method == "PUT" and OBJECT.fullmatch(path) or method in ("GET", "HEAD") and path == LIMITS:
             if not self.person.may(VAULT):
                 raise Answered(403, "right", act=VAULT)
-        elif method in ("GET", "HEAD") and (found := FILES.fullmatch(path)):
-            await self.may_content(int(found[1]))
+        elif method in ("GET", "HEAD") and (match := FILES.fullmatch(path)):
+            await self.may_content(int(match[1]))
         elif method in ("GET", "HEAD") and CATALOGUE.fullmatch(path):
             # a site of nginx from before the gate gave the catalogue itself
             need(self.person, "catalogue")

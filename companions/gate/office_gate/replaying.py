@@ -3,18 +3,18 @@
 How much was done of a request without a whole answer nobody knows: an end of the gate or of the office cut it off. The
 replay tries what is likeliest, and goes back if an answer after it, or a row in the end, is another then.
 """
-import os
 import shutil
 import tempfile
 from collections import deque
 from dataclasses import dataclass, field
 from pathlib import Path
 
+from office_common.files import sync
 from office_gate.body import Json, text_of
 from office_gate.errors import Refused
-from office_gate.places import Places
+from office_gate.places import Checkpoints
 from office_gate.playing import Player, copy
-from office_gate.requests import Kept, Request, Span, around, differences, keys_of, needs_of
+from office_gate.requests import JournaledRequest, Kept, Span, around, differences, keys_of, needs_of
 
 MOST_TRIED = 400
 """for one answer that differs so many requests are tried otherwise"""
@@ -39,19 +39,19 @@ class Difference:
     place: int = 0
 
     def comes_after(self, other: "Difference") -> bool:
-        """Whether it is further on, be it within the same list of acts."""
+        """Returns whether it is further on, be it within the same list of acts."""
         return (self.at, self.place) > (other.at, other.place)
 
 
-def differs(where: str, answer: object, seen: object) -> str:
-    return f"{where}: {text_of(answer)} was answered, and now {text_of(seen)}"
+def differs(where: str, answer: object, replayed: object) -> str:
+    return f"{where}: {text_of(answer)} was answered, and now {text_of(replayed)}"
 
 
 @dataclass
 class Replay:
     """The requests after a copy, and what is tried of each."""
 
-    requests: list[Request]
+    requests: list[JournaledRequest]
     spans: list[list[Span]]
     kept: Kept
     player: Player
@@ -62,7 +62,7 @@ class Replay:
     def __post_init__(self) -> None:
         self.chosen = [0] * len(self.requests)
         # copies from which everything chosen follows; and those made while something else is tried
-        self.places, self.fresh = Places(self.player, self.folder), Places(self.player, self.folder)
+        self.places, self.fresh = Checkpoints(self.player, self.folder), Checkpoints(self.player, self.folder)
         self.marks = self.places
         self.places.mark(0)
         self.before, self.first = self.chosen, 0
@@ -75,14 +75,14 @@ class Replay:
             if self.is_open(at):
                 self.marks.mark(at)
             after, acts = self.together(at, end)
-            found = self.compare(at, after, acts) if after > at else self.one(at)
-            if found:
-                return found
+            difference = self.compare(at, after, acts) if after > at else self.one(at)
+            if difference:
+                return difference
             at = max(after, at + 1)
         return None
 
     def is_open(self, at: int) -> bool:
-        """Whether a request can be played in more than one way."""
+        """Returns whether a request can be played in more than one way."""
         return len(self.spans[at]) > 1
 
     def together(self, at: int, end: int) -> tuple[int, list[Json]]:
@@ -109,22 +109,22 @@ class Replay:
         if answers is None:
             raise Refused(1, f"line {self.requests[at].line}: the replay's office does none of these acts, and they "
                              "were answered")
-        for it in range(at, after):
-            begin, end = self.spans[it][self.chosen[it]]
+        for place in range(at, after):
+            begin, end = self.spans[place][self.chosen[place]]
             mine, answers = answers[:end - begin], answers[end - begin:]
             acts, own = acts[end - begin:], acts[:end - begin]
-            if found := self.other(it, begin, own, mine):
-                return found
+            if difference := self.other(place, begin, own, mine):
+                return difference
         return None
 
     def other(self, at: int, begin: int, acts: list[Json], answers: list[object]) -> Difference | None:
         """Compares the answers to a request with those that were given."""
         request = self.requests[at]
-        for place, (act, seen) in enumerate(zip(acts, answers), begin):
-            if place < len(request.answers) and text_of(request.answers[place]) != text_of(seen):
+        for place, (act, replayed) in enumerate(zip(acts, answers), begin):
+            if place < len(request.answers) and text_of(request.answers[place]) != text_of(replayed):
                 given = request.answers[place]
-                return Difference(at, needs_of(act, given, seen),
-                                  differs(f"line {request.line}, act {request.places[place]}", given, seen), place)
+                return Difference(at, needs_of(act, given, replayed),
+                                  differs(f"line {request.line}, act {request.places[place]}", given, replayed), place)
         return None
 
     def one(self, at: int) -> Difference | None:
@@ -139,12 +139,12 @@ class Replay:
         # a list that nobody can read did nothing then either
         return self.other(at, begin, acts, answers or [])
 
-    def run(self, at: int, request: Request, end: int) -> Difference | None:
+    def run(self, at: int, request: JournaledRequest, end: int) -> Difference | None:
         """Carries out a run: all of it, or of one that was cut so many steps."""
         if request.is_known or end == 1:
-            seen = self.player.resume()
-            if request.answers and text_of(request.answers[0]) != text_of(seen):
-                return Difference(at, {"run"}, differs(f"line {request.line}", request.answers[0], seen))
+            replayed = self.player.resume()
+            if request.answers and text_of(request.answers[0]) != text_of(replayed):
+                return Difference(at, {"run"}, differs(f"line {request.line}", request.answers[0], replayed))
         else:
             self.player.acts([{"act": "run-step"}] * max(0, end - 1))
         return None
@@ -171,14 +171,14 @@ class Replay:
 
     def whole(self) -> None:
         """Plays all. Where an answer differs it tries the requests before it otherwise."""
-        found = self.play(0, len(self.requests))
-        while found:
-            found = self.mended(found)
+        difference = self.play(0, len(self.requests))
+        while difference:
+            difference = self.mended(difference)
 
     def open_before(self, difference: Difference) -> list[int]:
         """Lists the requests that may be played otherwise, the likeliest cause first."""
-        those = [it for it in range(min(difference.at + 1, len(self.requests))) if self.is_open(it)]
-        return sorted(those, key=lambda it: (-self.concerns(it, difference.keys), -it))[:MOST_TRIED]
+        places = [place for place in range(min(difference.at + 1, len(self.requests))) if self.is_open(place)]
+        return sorted(places, key=lambda place: (-self.concerns(place, difference.keys), -place))[:MOST_TRIED]
 
     def concerns(self, at: int, keys: set[str]) -> int:
         """Tells whether a request changes any of these: 2 for a thing by its name, 1 for a run, or for numbers."""
@@ -191,21 +191,21 @@ class Replay:
         self.widen(difference)
         earlier: list[tuple[dict[int, int], Difference]] = []
         for at, way in self.ways(difference):
-            found = self.otherwise({at: way})
-            if found is None or found.comes_after(difference):
+            left = self.otherwise({at: way})
+            if left is None or left.comes_after(difference):
                 self.keep()
-                return found
+                return left
             self.forget()
-            earlier.append(({at: way}, found))
+            earlier.append(({at: way}, left))
         # what fitted an answer before may have been wrong: taken back, it needs another one to be played otherwise too
         for one, other in earlier[:MOST_PAIRED]:
             for at, way in self.ways(other)[:MOST_PARTNERS]:
                 if at in one:
                     continue
-                found = self.otherwise(one | {at: way})
-                if found is None or found.comes_after(difference):
+                left = self.otherwise(one | {at: way})
+                if left is None or left.comes_after(difference):
                     self.keep()
-                    return found
+                    return left
                 self.forget()
         raise Refused(1, difference.text)
 
@@ -225,15 +225,15 @@ class Replay:
 
     def compared(self, beside: Path) -> list[str]:
         """Compares the rows with those of a file, and returns what differs once nothing else can be tried."""
-        found = self.rows(beside)
-        while found:
-            better = self.nearer(beside, found)
+        rows = self.rows(beside)
+        while rows:
+            better = self.nearer(beside, rows)
             if better is None:
                 # what was tried last is in the file
                 self.play(self.places.back_to(len(self.requests)), len(self.requests))
                 break
-            found = better
-        return [it for it, _ in found]
+            rows = better
+        return [it for it, _ in rows]
 
     def rows(self, beside: Path) -> Rows:
         self.player.stop()
@@ -246,15 +246,15 @@ class Replay:
     def nearer(self, beside: Path, rows: Rows) -> Rows | None:
         """Tries the requests that concern the rows otherwise: many at once, and of those that do not help the halves."""
         keys = set().union(*(it for _, it in rows))
-        those = [it for it in self.open_before(Difference(len(self.requests), keys, "")) if self.concerns(it, keys)]
-        named = sorted(it for it in those if self.concerns(it, keys) > 1)
-        groups = deque((it, 1) for it in (named, sorted(set(those) - set(named))) if it)
+        places = [it for it in self.open_before(Difference(len(self.requests), keys, "")) if self.concerns(it, keys)]
+        named = sorted(it for it in places if self.concerns(it, keys) > 1)
+        groups = deque((it, 1) for it in (named, sorted(set(places) - set(named))) if it)
         while groups:
             some, more = groups.popleft()
             others = {at: (self.chosen[at] + more) % len(self.spans[at]) for at in some}
-            if self.otherwise(others) is None and len(found := self.rows(beside)) < len(rows):
+            if self.otherwise(others) is None and len(better := self.rows(beside)) < len(rows):
                 self.keep()
-                return found
+                return better
             self.forget()
             if len(some) > 1:
                 middle = len(some) // 2
@@ -265,7 +265,7 @@ class Replay:
         return None
 
 
-def spans_of(request: Request, moment: float) -> list[Span]:
+def spans_of(request: JournaledRequest, moment: float) -> list[Span]:
     """Lists the ways to play a request; a run that was cut may have come to any step."""
     spans = request.spans(moment)
     if request.acts is None and not request.is_known and spans:
@@ -273,37 +273,32 @@ def spans_of(request: Request, moment: float) -> list[Span]:
     return spans
 
 
-def replay(requests: list[Request], times: tuple[float, float], kept: Kept, files: tuple[Path, Path]) -> Replay:
+def replay(requests: list[JournaledRequest], times: tuple[float, float], kept: Kept,
+           files: tuple[Path, Path]) -> Replay:
     """Plays the acts from one time to another on a copy, for a new file. The caller removes the folder of the replay."""
     (moment, until), (copied, new) = times, files
     if new.exists():
         raise Refused(2, f"{new} is there already")
-    for it in requests:
-        if it.answered_at > moment:
-            kept.leave_out(it)
-    ways = [(it, spans_of(it, moment)) for it in requests if it.acted() and it.asked_at <= until]
-    ways = [(it, spans) for it, spans in ways if spans]
+    for request in requests:
+        if request.answered_at > moment:
+            kept.leave_out(request)
+    ways = [(request, spans_of(request, moment)) for request in requests
+            if request.acted() and request.asked_at <= until]
+    ways = [(request, spans) for request, spans in ways if spans]
     folder = Path(tempfile.mkdtemp(prefix=".office-journal-", dir=new.parent))
     try:
         copy(copied, folder / "replay.db")
     except OSError:
         shutil.rmtree(folder, ignore_errors=True)
         raise
-    return Replay([it for it, _ in ways], [spans for _, spans in ways], kept, Player(folder / "replay.db"), folder)
+    player = Player(folder / "replay.db")
+    return Replay([request for request, _ in ways], [spans for _, spans in ways], kept, player, folder)
 
 
 def named(made: Path, new: Path) -> None:
     """Gives a file its name once it is whole and on the disk: after a replay that fails there is no such file."""
-    synced(made)
+    sync(made)
     if new.exists():
         raise Refused(2, f"{new} is there already")
     made.rename(new)
-    synced(new.parent)
-
-
-def synced(place: Path) -> None:
-    file = os.open(place, os.O_RDONLY)
-    try:
-        os.fsync(file)
-    finally:
-        os.close(file)
+    sync(new.parent)

@@ -12,7 +12,7 @@ from office_gate.body import Json, number_in
 from office_gate.chain import entries
 from office_gate.contents import Contents, changed_nothing, spans_of
 from office_gate.errors import Refused
-from office_gate.words import OF_RECORD
+from office_gate.words import DENIED, OF_RECORD
 
 Span = tuple[int, int]
 """the acts of a request from one place up to another"""
@@ -23,8 +23,8 @@ def seconds(at: object) -> float:
 
 
 @dataclass
-class Request:
-    """What was asked and answered. Of a request without a whole answer nobody knows how much of it was done."""
+class JournaledRequest:
+    """A request and its answer. Of a request without a whole answer nobody knows how much of it was done."""
 
     line: int
     asked_at: float
@@ -42,8 +42,14 @@ class Request:
         return len(self.acts) if self.acts is not None else 1
 
     def acted(self) -> bool:
-        """Whether it did anything, or may have."""
+        """Returns whether it did anything, or may have."""
+        if self.status == DENIED:
+            return bool(self.acts)
         return not self.is_known or self.status in (200, 409) and (self.acts is not None or self.status == 200)
+
+    def stop_at(self, place: int) -> None:
+        """Leaves out the acts from a place on: the office denied that one, and did none behind it."""
+        self.acts, self.places = (self.acts or [])[:place], self.places[:place]
 
     def spans(self, moment: float) -> list[Span]:
         """Lists what may have to be done of it after a copy of that moment, the likeliest first."""
@@ -57,56 +63,59 @@ class Request:
         return [(begin, end) for end in ends for begin in begins if begin <= end]
 
 
-def take(entry: Json) -> Request:
+def take(entry: Json) -> JournaledRequest:
     acts, contents = entry.get("acts") if entry["request"] == "POST /acts" else None, entry.get("contents")
     if acts and contents:
         for place, (at, _) in spans_of(acts, int(str(contents["from"]))).items():
             acts[place]["content"]["from"] = at
-    return Request(int(entry["line"]), seconds(entry["at"]), acts, contents, places=list(range(len(acts or []))))
+    places = list(range(len(acts or [])))
+    return JournaledRequest(int(entry["line"]), seconds(entry["at"]), acts, contents, places=places)
 
 
-def read(files: list[Path]) -> list[Request]:
+def read(files: list[Path]) -> list[JournaledRequest]:
     """Reads all requests that were sent to the office."""
-    found: dict[int, Request] = {}
+    requests: dict[int, JournaledRequest] = {}
     for entry in entries(files):
         if entry.get("what") == "asked":
-            found[int(entry["line"])] = take(entry)
-        elif entry.get("what") == "answered" and (it := found.get(int(entry["of"]))):
-            it.answers = entry.get("answers") or []
-            it.is_known = bool(entry.get("known", True))
-            it.status = int(entry.get("status", 0))
-            if it.is_known:
-                it.answered_at = seconds(entry["at"])
-            if it.acts is None and isinstance(entry.get("answer"), dict):
-                it.answers = [entry["answer"]]
-    return settled(list(found.values()))
+            requests[int(entry["line"])] = take(entry)
+        elif entry.get("what") == "answered" and (request := requests.get(int(entry["of"]))):
+            request.answers = entry.get("answers") or []
+            request.is_known = bool(entry.get("known", True))
+            request.status = int(entry.get("status", 0))
+            if request.status == DENIED and request.acts is not None:
+                request.stop_at(len(request.answers))
+            if request.is_known:
+                request.answered_at = seconds(entry["at"])
+            if request.acts is None and isinstance(entry.get("answer"), dict):
+                request.answers = [entry["answer"]]
+    return settled(list(requests.values()))
 
 
-def settled(requests: list[Request]) -> list[Request]:
+def settled(requests: list[JournaledRequest]) -> list[JournaledRequest]:
     """Says of each request without an answer by when it was done, or never was: by the office's next answer to an act.
 
     The office serves one request after another, in the order in which they come.
     """
     by = float("inf")
-    for it in reversed(requests):
-        if not it.is_known:
-            it.answered_at = by
-        elif it.status < 500:
-            by = it.answered_at
+    for request in reversed(requests):
+        if not request.is_known:
+            request.answered_at = by
+        elif request.status < 500:
+            by = request.answered_at
     return requests
 
 
-def cut_at(requests: list[Request], moment: float) -> None:
+def cut_at(requests: list[JournaledRequest], moment: float) -> None:
     """Takes what was under way at a moment as a request without an answer: a copy of then has it, or not, or half."""
-    for it in requests:
-        if it.asked_at <= moment < it.answered_at:
-            it.is_known, it.answers, it.answered_at = False, [], float("inf")
+    for request in requests:
+        if request.asked_at <= moment < request.answered_at:
+            request.is_known, request.answers, request.answered_at = False, [], float("inf")
 
 
 # ---- contents, which the journal has not
 
 def has_content(act: Json) -> bool:
-    """Whether the journal has the length of a content of this act in its place."""
+    """Returns whether the journal has the length of a content of this act in its place."""
     return isinstance(act.get("content"), dict) and "bytes" in act["content"]
 
 
@@ -117,21 +126,21 @@ class Kept:
         self.contents = contents
         self.files = [sqlite3.connect(f"file:{it}?immutable=1", uri=True) for it in files]
 
-    def of(self, request: Request) -> list[Json]:
+    def of(self, request: JournaledRequest) -> list[Json]:
         """Returns the acts of a request with their contents."""
-        found = []
+        acts = []
         for act in request.acts or []:
-            it = dict(act)
+            whole = dict(act)
             if has_content(act):
                 data = self.one(request, act["content"])
                 if data is None:
                     raise Refused(1, f"line {request.line}: a content of {act['content']['bytes']} bytes, SHA-256 "
                                      f"{act['content']['sha256']}, is no longer there")
-                it["content"] = base64.b64encode(data).decode()
-            found.append(it)
-        return found
+                whole["content"] = base64.b64encode(data).decode()
+            acts.append(whole)
+        return acts
 
-    def one(self, request: Request, content: Json) -> bytes | None:
+    def one(self, request: JournaledRequest, content: Json) -> bytes | None:
         """Returns a content, or None if it is no longer there."""
         day, sha256 = str((request.contents or {}).get("day")), content["sha256"]
         data = self.contents.read(day, int(content["from"]), int(str(content["bytes"])), sha256)
@@ -141,7 +150,7 @@ class Kept:
                 data = content_bytes
         return data
 
-    def leave_out(self, request: Request) -> None:
+    def leave_out(self, request: JournaledRequest) -> None:
         """Takes acts out of a request that changed nothing, and whose contents the gate took back."""
         acts, answers = request.acts or [], request.answers
         if not request.is_known or len(acts) != len(answers):
@@ -169,57 +178,57 @@ TABLES = {"office": ("one", "day"), "schedules": ("code", "schedule"), "schedule
 
 def keys_of(act: Json) -> set[str]:
     """Names what an act changes. Two acts without a name in common seldom concern each other."""
-    kind, found = act.get("act"), set()
+    kind, keys = act.get("act"), set()
     if kind in OF_RECORD:
-        found.add(f"record:{number_in(act, 'record')}")
+        keys.add(f"record:{number_in(act, 'record')}")
     elif kind in NAMED:
         thing, name = NAMED[kind]
-        found.add(f"{thing}:{act.get(name)}")
+        keys.add(f"{thing}:{act.get(name)}")
     if kind in ("reclassify", "hold-on", "hold-off"):
-        found.add(str(act.get("target")))
+        keys.add(str(act.get("target")))
     if kind in ("open-run", "run-step"):
-        found.add("run")
+        keys.add("run")
     if kind in ("add-record", "add-aggregation", "open-run"):
-        found.add(f"numbers of {kind}")
-    return found
+        keys.add(f"numbers of {kind}")
+    return keys
 
 
 def needs_of(act: Json, *answers: object) -> set[str]:
     """Names what the answer to an act depends on: what it changes, what it names, and what its answers name."""
-    found = keys_of(act)
+    keys = keys_of(act)
     if not all(isinstance(it, dict) and "number" in it for it in answers):
-        found.discard(f"numbers of {act.get('act')}")
-    found |= {f"{thing}:{act[name]}" for name, thing in REFERRED.items() if act.get(name) is not None}
+        keys.discard(f"numbers of {act.get('act')}")
+    keys |= {f"{thing}:{act[name]}" for name, thing in REFERRED.items() if act.get(name) is not None}
     if act.get("act") in OF_RECORD:
         # a run may have ended it
-        found.add("run")
-    found |= {f"record:{it['record']}" for it in answers if isinstance(it, dict) and "record" in it}
+        keys.add("run")
+    keys |= {f"record:{it['record']}" for it in answers if isinstance(it, dict) and "record" in it}
     # a thing with a number may not have been made at all
-    found |= {f"numbers of add-{thing}" for thing in ("record", "aggregation")
-              if any(it.startswith(f"{thing}:") for it in found)}
-    return found
+    keys |= {f"numbers of add-{thing}" for thing in ("record", "aggregation")
+             if any(it.startswith(f"{thing}:") for it in keys)}
+    return keys
 
 
 def around(file: Path, keys: set[str]) -> set[str]:
     """Names what the records among these things lie in, and have: their files, classes and schedules, as a file says."""
-    found: set[str] = set()
+    things: set[str] = set()
     with closing(sqlite3.connect(file)) as db:
         for number in [int(it.partition(":")[2]) for it in keys if it.startswith("record:")]:
             row = db.execute("SELECT aggregation, class, schedule FROM records WHERE num = ?", (number,)).fetchone()
             lies, *own = row or (None, None, None)
             codes, schedules = own[:1], own[1:]
             while lies is not None:
-                found.add(f"aggregation:{lies}")
+                things.add(f"aggregation:{lies}")
                 above = db.execute("SELECT parent, class FROM aggregations WHERE num = ?", (lies,)).fetchone()
                 lies, code = above or (None, None)
                 codes.append(code)
-            found |= {f"class:{it}" for it in codes if it} | {f"schedule:{it}" for it in schedules if it}
-    return found
+            things |= {f"class:{it}" for it in codes if it} | {f"schedule:{it}" for it in schedules if it}
+    return things
 
 
 def differences(left: Path, right: Path) -> list[tuple[str, set[str]]]:
     """Lists the rows in which two files of an office differ, with what each is about."""
-    found: list[tuple[str, set[str]]] = []
+    rows: list[tuple[str, set[str]]] = []
     with closing(sqlite3.connect(f"file:{left}?immutable=1", uri=True)) as db:
         db.execute("ATTACH ? AS other", (f"file:{right}?immutable=1",))
         for table, (key, thing) in TABLES.items():
@@ -231,8 +240,8 @@ def differences(left: Path, right: Path) -> list[tuple[str, set[str]]]:
                     keys |= {f"{it}:{named[it]}" for it in ("class", "schedule", "hold") if named[it] is not None}
                 if table == "targets":
                     keys.add(f"{named['kind']}:{named['target']}")
-                found.append((f"{table} {key} {named[key]}", keys | ({"run"} if thing == "run" else set())))
-    return found
+                rows.append((f"{table} {key} {named[key]}", keys | ({"run"} if thing == "run" else set())))
+    return rows
 
 
 def differing(db: sqlite3.Connection, table: str) -> Iterator[tuple[Any, ...]]:

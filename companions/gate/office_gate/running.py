@@ -14,7 +14,7 @@ from office_gate import starting
 from office_gate.errors import Answered, Refused, say
 from office_gate.gate import Gate
 from office_gate.serving import Front
-from office_gate.starting import Places
+from office_gate.starting import Paths
 
 BACKLOG = 4096
 STOP_SECONDS = 300
@@ -31,11 +31,11 @@ def listener(place: Path | None) -> socket.socket:
     if place is None:
         raise Refused(2, "there is no --socket, and systemd passes none")
     place.unlink(missing_ok=True)
-    it = socket.socket(socket.AF_UNIX, socket.SOCK_STREAM)
-    it.bind(str(place))
+    listening = socket.socket(socket.AF_UNIX, socket.SOCK_STREAM)
+    listening.bind(str(place))
     place.chmod(0o660)
-    it.listen(BACKLOG)
-    return it
+    listening.listen(BACKLOG)
+    return listening
 
 
 async def watch(gate: Gate) -> None:
@@ -88,7 +88,7 @@ async def serve(gate: Gate, at: socket.socket) -> None:
     server = await loop.create_unix_server(front, sock=at, backlog=BACKLOG)
     for number in (signal.SIGTERM, signal.SIGINT):
         loop.add_signal_handler(number, stop.set)
-    tasks = [asyncio.ensure_future(it(gate)) for it in (watch, prune, follow, each_minute)]
+    tasks = [asyncio.ensure_future(task(gate)) for task in (watch, prune, follow, each_minute)]
 
     def reload() -> None:
         tasks.append(asyncio.ensure_future(gate.reload()))
@@ -101,8 +101,8 @@ async def serve(gate: Gate, at: socket.socket) -> None:
     await closed(server, at)
     await drained(front)
     gate.index.end()
-    for it in tasks:
-        it.cancel()
+    for task in tasks:
+        task.cancel()
     await front.shutdown(1)
     await gate.journal.append({"what": "closed"})
     await gate.journal.print_head(is_asked=True)
@@ -127,7 +127,7 @@ async def drained(front: Front) -> None:
         await asyncio.sleep(0.01)
 
 
-def run(places: Places, address: str) -> None:
-    at = listener(places.socket)
-    gate = starting.opened(places, address)
+def run(paths: Paths, address: str) -> None:
+    at = listener(paths.socket)
+    gate = starting.opened(paths, address)
     asyncio.run(serve(gate, at))

@@ -40,8 +40,8 @@ class Scopes:
         return self.records[number]
 
     async def class_of_record(self, number: int | None) -> str | None:
-        found = await self.record(number)
-        return found["class"] if found else None
+        record = await self.record(number)
+        return record["class"] if record else None
 
     def class_of(self, number: int | None) -> str | None:
         return self.aggregations.class_of(number)
@@ -66,12 +66,12 @@ class Scopes:
 
     def both(self, act: Json, container: str) -> Scope:
         """What is put into a container is in the class that it names, and counts for that of the container."""
-        found: Scope = []
+        scope: Scope = []
         if act.get("class") is not None:
-            found.append(text(act["class"]))
+            scope.append(text(act["class"]))
         if act.get(container) is not None:
-            found.append(self.class_of(number_in(act, container)))
-        return found or [None]
+            scope.append(self.class_of(number_in(act, container)))
+        return scope or [None]
 
     async def of_target(self, target: object) -> str | None:
         kind, name = split(target)
@@ -82,22 +82,22 @@ class Scopes:
         return await self.class_of_record(number_of(name)) if kind == "record" else None
 
     async def given_by(self, act: Json) -> str | None:
-        """The class that an act of reclassifying gives: an own one, or else what its target then inherits."""
+        """Returns the class that an act of reclassifying gives: an own one, or else what its target then inherits."""
         if act.get("class") is not None:
             return text(act["class"])
         kind, name = split(act.get("target"))
         number = number_of(name)
         if kind == "record":
-            found = await self.record(number)
-            return self.class_of(found["aggregation"]) if found else None
+            record = await self.record(number)
+            return self.class_of(record["aggregation"]) if record else None
         return self.class_of(self.aggregations.parents.get(number or 0))
 
     async def given_in(self, acts: list[Json]) -> Scope:
-        """The classes that the list gives to things: within the list a thing may have any of these, and gets one."""
+        """Returns the classes that the list gives to things: within the list a thing may have any of these."""
         return [await self.given_by(act) async for _, act in each(acts) if act["act"] == "reclassify"]
 
 
 def has_thing(act: Json) -> bool:
-    """Whether an act is about a record or an aggregation that is there, whose class the list may change."""
+    """Returns whether an act is about a record or an aggregation that is there, whose class the list may change."""
     return act["act"] in (*OF_RECORD, "reclassify", "close-aggregation", "add-record", "add-aggregation") or \
         act["act"] in ("hold-on", "hold-off") and split(act.get("target"))[0] != "class"

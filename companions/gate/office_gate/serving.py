@@ -12,7 +12,7 @@ from aiohttp import HttpVersion10, HttpVersion11, web
 from aiohttp.web_protocol import RequestHandler
 
 from office_gate import guards
-from office_gate.deciding import Asked, may_act
+from office_gate.deciding import Caller, may_act
 from office_gate.errors import Answered
 from office_gate.gate import Gate
 from office_gate.guards import Lines
@@ -67,9 +67,9 @@ class Front(web.Server):
         self.under_way: set[asyncio.Future[web.StreamResponse]] = set()
 
     def __call__(self) -> RequestHandler:
-        it = Connection(self, loop=self._loop, **self._kwargs)
-        it.front = self
-        return it
+        connection = Connection(self, loop=self._loop, **self._kwargs)
+        connection.front = self
+        return connection
 
     def note_unreadable(self) -> None:
         """Bytes that are no request have no name and no path."""
@@ -108,24 +108,24 @@ class Front(web.Server):
             name = guards.name_of(self.gate, lines)
             is_post = request.method == "POST"
             guards.site(self.gate, lines, is_post)
-            await self.gate.tell()
-            asked = Asked(self.gate.access.person(name), lines.one("Office-From")[:64], guards.reason(lines),
-                          dict(guards.passed(lines)), has_vault=lines.one("Office-Vault") != "none")
-            if found := STORED.fullmatch(request.raw_path):
-                return await self.stored(asked, lines, int(found[1]))
+            await self.gate.note_settings()
+            caller = Caller(self.gate.access.person(name), lines.one("Office-From")[:64], guards.reason(lines),
+                            dict(guards.passed(lines)), has_vault=lines.one("Office-Vault") != "none")
+            if match := STORED.fullmatch(request.raw_path):
+                return await self.stored(caller, lines, int(match[1]))
             with self.gate.requests.one(name, self.gate.access.requests_at_once):
                 method(request)
                 if is_post:
-                    if request.raw_path == "/acts" and not may_act(asked.person):
+                    if request.raw_path == "/acts" and not may_act(caller.person):
                         body["body"] = await self.dropped(request, lines)
                         raise Answered(403, "right")
                     data = await self.body(request, lines) if request.raw_path == "/acts" else b""
                     journaled = True
-                    return await self.act(request.raw_path, asked, data)
+                    return await self.act(request.raw_path, caller, data)
                 if request.raw_path == MAY:
-                    return await self.may(asked, lines)
-                answer = await Reading(self.gate, asked).answer(request.raw_path)
-                await self.gate.note(asked, what(request, lines), answer.status, len(answer.body))
+                    return await self.may(caller, lines)
+                answer = await Reading(self.gate, caller).answer(request.raw_path)
+                await self.gate.note(caller, what(request, lines), answer.status, len(answer.body))
                 return passed_back(answer)
         except Answered as refused:
             if not journaled:
@@ -136,11 +136,11 @@ class Front(web.Server):
                 await self.gate.refuse(entry(name, request, lines), Answered(500, "gate"))
             raise
 
-    async def act(self, path: str, asked: Asked, data: bytes) -> web.StreamResponse:
+    async def act(self, path: str, caller: Caller, data: bytes) -> web.StreamResponse:
         if path == "/acts":
-            answer, head = await self.gate.acts(asked, data)
+            answer, head = await self.gate.acts(caller, data)
         else:
-            answer, head = await self.gate.resume(asked)
+            answer, head = await self.gate.resume(caller)
         back = passed_back(answer)
         back.headers["Office-Journal"] = str(head)
         return back
@@ -164,26 +164,26 @@ class Front(web.Server):
                 left -= len(data)
         return {"bytes": length, "sha256": sha256.hexdigest()}
 
-    async def may(self, asked: Asked, lines: Lines) -> web.StreamResponse:
+    async def may(self, caller: Caller, lines: Lines) -> web.StreamResponse:
         """Answers nginx, which asks before it gives a file, or takes one."""
         verb, path = lines.one("Office-Method"), lines.one("Office-Path")
         guards.site(self.gate, lines, verb == "PUT")
-        await Reading(self.gate, asked).may(verb, path)
+        await Reading(self.gate, caller).may(verb, path)
         back = reply(204, None)
         if verb == "PUT":
-            await self.gate.put(asked, f"{verb} {path}")
-            back.headers["Office-Unnamed"] = str(self.gate.facts.files.unnamed(asked.person.name))
+            await self.gate.put(caller, f"{verb} {path}")
+            back.headers["Office-Unnamed"] = str(self.gate.facts.files.unnamed(caller.person.name))
         else:
-            await self.gate.note(asked, f"{verb} {path}", 204, 0)
+            await self.gate.note(caller, f"{verb} {path}", 204, 0)
         return back
 
-    async def stored(self, asked: Asked, lines: Lines, length: int) -> web.StreamResponse:
+    async def stored(self, caller: Caller, lines: Lines, length: int) -> web.StreamResponse:
         """Answers in the place of the vault, which took a file in; alike, whether anybody had put it in before."""
         path = lines.one("Office-Path")
         guards.site(self.gate, lines, True)
-        await Reading(self.gate, asked).may("PUT", path)
+        await Reading(self.gate, caller).may("PUT", path)
         digest = path.rpartition("/")[2]
-        await self.gate.stored(asked, digest, length)
+        await self.gate.stored(caller, digest, length)
         return reply(201, {"length": length, "sha256": digest})
 
 

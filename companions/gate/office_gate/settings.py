@@ -18,6 +18,7 @@ ROLE = re.compile(r"[a-z0-9-]{1,32}")
 SITE = re.compile(r"https://[A-Za-z0-9.\[\]:-]+|http://(localhost|127(\.\d{1,3}){3}|\[::1\])(:\d+)?", re.ASCII)
 RULES = ("opener-does-not-carry-out", "confirmer-does-not-open", "sender-does-not-receive", "receiver-does-not-open")
 """the rules that are on or off; each is a member of `Rules`, with _ in place of -"""
+ALONE = "'begin' and 'end' have a line of their own"
 MOST_SIGNED = 200
 """the longest text of an act, in bytes"""
 
@@ -70,6 +71,8 @@ class Reader:
         self.signed: dict[str, str] = {}
         self.rules = Rules()
         self.once: dict[str, Any] = {}
+        self.has_statement = False
+        self.marks: set[str] = set()
 
     # ---- the statements
 
@@ -155,6 +158,20 @@ class Reader:
             raise Wrong("write: journal readings, or journal acts")
         self.set_once("journals_readings", words == ["readings"])
 
+    def begin(self, words: list[str]) -> None:
+        if words:
+            raise Wrong(ALONE)
+        if self.has_statement:
+            raise Wrong("'begin' stands above all other statements")
+        self.marks.add("begin")
+
+    def end(self, words: list[str]) -> None:
+        if words:
+            raise Wrong(ALONE)
+        if "begin" not in self.marks:
+            raise Wrong("no 'begin' stands above this 'end'")
+        self.marks.add("end")
+
     def set_once(self, name: str, value: object) -> None:
         if name in self.once:
             raise Wrong("this is set already above")
@@ -163,12 +180,18 @@ class Reader:
     # ---- the whole
 
     def statement(self, words: list[str], line: int) -> None:
+        if "end" in self.marks:
+            raise Wrong("no statement stands below 'end'")
+        self.read_statement(words, line)
+        self.has_statement = True
+
+    def read_statement(self, words: list[str], line: int) -> None:
         if words[0] == "name":
             self.name(words[1:], line)
             return
         kinds: dict[str, Callable[[list[str]], None]] = {
             "site": self.site, "zone": self.zone, "role": self.role, "rule": self.rule, "limit": self.limit,
-            "keep": self.keep, "journal": self.journal}
+            "keep": self.keep, "journal": self.journal, "begin": self.begin, "end": self.end}
         if words[0] not in kinds:
             raise Wrong(f"no line begins with '{words[0]}': they begin with {', '.join([*kinds, 'name'])}")
         kinds[words[0]](words[1:])
@@ -179,6 +202,8 @@ class Reader:
                 self.statement(words, line)
             except Wrong as wrong:
                 raise Refused(2, f"{self.path}:{line}: {wrong}") from wrong
+        if self.marks == {"begin"}:
+            raise Refused(2, f"{self.path}: the file is cut off: it has 'begin', but no 'end'")
         for it in ("site", "zone"):
             if it not in self.once:
                 raise Refused(2, f"{self.path}: there is no line '{it}'")

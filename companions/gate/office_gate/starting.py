@@ -3,7 +3,7 @@ import asyncio
 from dataclasses import dataclass
 from pathlib import Path
 
-from office_gate import alone, chain, settings
+from office_gate import alone, chain, deciding, settings
 from office_gate.acts_index import ActsIndex
 from office_gate.catalogue import Catalogue
 from office_gate.catching import catch_up, unanswered
@@ -16,12 +16,13 @@ from office_gate.gate import Gate
 from office_gate.journal import Journal
 from office_gate.office import Office
 from office_gate.own_catalogue import OwnCatalogues
+from office_gate.stating import Stating, check_reader
 
 LEAST_TOKEN = 32
 
 
 @dataclass(frozen=True)
-class Places:
+class Paths:
     """Where a gate has its files."""
 
     settings: Path
@@ -30,6 +31,9 @@ class Places:
     token: Path
     catalogue: Path | None
     socket: Path | None
+    # the secret of an office that decides too, and the name by which the gate itself asks
+    office_token: Path | None = None
+    office_reader: str | None = None
 
 
 def token_of(path: Path) -> str:
@@ -43,16 +47,28 @@ def token_of(path: Path) -> str:
     return text
 
 
-def opened(places: Places, address: str) -> Gate:
+def opened(paths: Paths, address: str) -> Gate:
     """Opens all parts. The journal's first line is written by `begin`."""
-    access = settings.read(places.settings)
-    token = token_of(places.token)
-    journal = Journal(places.journal, Contents(places.state / "contents").make())
+    access = settings.read(paths.settings)
+    token = token_of(paths.token)
+    journal = Journal(paths.journal, Contents(paths.state / "contents").make())
     journal.open()
-    last = chain.last_entry(chain.files_of(places.journal))
-    return Gate(access, token, journal, Facts(places.state / "facts.db"), Catalogue(places.catalogue), Office(address),
-                ActsIndex(places.state / "history.db", places.journal), OwnCatalogues(places.state / "catalogues"),
-                Clock(places.state, moment_of(last) if last else None))
+    last = chain.last_entry(chain.files_of(paths.journal))
+    gate = Gate(access, token, journal, Facts(paths.state / "facts.db"), Catalogue(paths.catalogue), Office(address),
+                ActsIndex(paths.state / "history.db", paths.journal), OwnCatalogues(paths.state / "catalogues"),
+                Clock(paths.state, moment_of(last) if last else None))
+    gate.office.stating = stating_of(paths, gate)
+    return gate
+
+
+def stating_of(paths: Paths, gate: Gate) -> Stating | None:
+    """Returns what states to the office who asks; None for an office that does not decide."""
+    if paths.office_token is None or paths.office_reader is None:
+        if (paths.office_token, paths.office_reader) != (None, None):
+            raise Refused(2, "--office-token and --office-reader need each other")
+        return None
+    check_reader(gate.access, paths.office_reader)
+    return Stating(token_of(paths.office_token), paths.office_reader, lambda: deciding.today(gate.access))
 
 
 async def begin(gate: Gate) -> None:
@@ -60,7 +76,7 @@ async def begin(gate: Gate) -> None:
     for sentence in alone.statement(gate.access):
         say(sentence)
     await gate.journal.append({"what": "opened", "settings": gate.access.digest})
-    gate.told = gate.access.digest
+    gate.noted = gate.access.digest
     for line in unanswered(gate.journal.path, gate.facts):
         await gate.journal.append({"what": "answered", "of": line, "status": 0, "known": False})
     catch_up(gate.journal.path, gate.facts, gate.journal.head)

@@ -6,6 +6,8 @@ ACTS = ("add-schedule", "add-class", "set-class-schedule", "add-aggregation", "c
 """the kinds of acts of a list (docs/ACTS.md)"""
 RESUME = "resume"
 """POST /run/resume"""
+DENIED = 403
+"""the status of what an office that decides too denies; of a list it has the answers to the acts before, which are done"""
 VAULT = "vault"
 """PUT of a file into the vault"""
 LATER_DAY = "later-day"

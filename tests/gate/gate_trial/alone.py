@@ -183,7 +183,7 @@ class Trial:
 
 def shipped(world: World) -> None:
     """An office works with the names and the rules of the file that is shipped: two of its names make a run."""
-    text = "\n".join(it for it in CITY.splitlines() if not it.startswith(("site ", "zone "))) + "\n"
+    text = "\n".join(it for it in CITY.splitlines() if not it.startswith(("site ", "zone ", "begin", "end"))) + "\n"
     world.reload(text)
 
     def done(name: str, *acts: dict) -> list[dict]:

@@ -137,10 +137,7 @@ def strange(world: World, stand: Stand) -> None:
         same(f"{act}: nobody knows", world.act("records-manager", act), (502, {"error": "unknown"}))
         same(f"{act}: the next act", world.act("legal", ACT)[0], 200)
     judge("all of it is noted", "is not noted" not in (world.folder / "log").read_text())
-    world.stop_gate(signal.SIGKILL)
-    for it in world.state.glob("facts.db*"):
-        it.unlink()
-    world.start_gate()
+    world.start_without_facts(signal.SIGKILL)
     stand.told(DONE)
     same("after a start, from the journal", world.act("legal", ACT)[0], 200)
 

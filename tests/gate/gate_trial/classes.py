@@ -209,10 +209,7 @@ def ahead(world: World, rows: list[dict]) -> None:
 
 def unknown(world: World) -> None:
     """After a start without what it had noted the gate knows the same; a file that nobody knows is nobody's."""
-    world.stop_gate()
-    for it in world.state.glob("facts.db*"):
-        it.unlink()
-    world.start_gate()
+    world.start_without_facts()
     refused(world, "after a start, from the journal", filing(8, 3))
     for damage in (b"no database", None):
         world.stop_gate()

@@ -43,7 +43,7 @@ def tried(folder: pathlib.Path) -> None:
 def allowed() -> None:
     """The unit lets the gate ask whether the clock is synchronised."""
     unit = TOP / "companions/gate/units/office-gate@.service"
-    code = f"import sys; sys.path[:0] = [{str(JOURNAL.parent)!r}]\nfrom office_gate import clock\n" \
+    code = f"import sys; sys.path[:0] = {[str(JOURNAL.parent), str(JOURNAL.parents[1])]}\nfrom office_gate import clock\n" \
            "clock.TIMESYNCD = None\nprint(clock.is_synchronised())"
     for what, words in (("without the unit", []), ("in the unit", [TOP / "tests/unit_filter.py", unit])):
         done = subprocess.run([*words, PYTHON, "-I", "-c", code], capture_output=True, text=True, check=False)

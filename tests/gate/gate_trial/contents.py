@@ -93,17 +93,7 @@ def unanswered(world: World) -> None:
 def unread(world: World) -> None:
     """What may have been done keeps its contents: the gate is killed while the office has the list."""
     before = on_disk(world)
-    world.office.send_signal(signal.SIGSTOP)
-    acts = filing(500, 1, os.urandom(LARGE)), filing(10, 1, b"other")
-    one = threading.Thread(target=world.act, args=("registry", *acts))
-    one.start()
-    while on_disk(world)[0] == before[0] or world.last("asked")["acts"][0].get("ref") != "r500":
-        time.sleep(0.02)
-    time.sleep(0.3)
-    world.stop_gate(signal.SIGKILL)
-    one.join()
-    world.office.send_signal(signal.SIGCONT)
-    world.start_gate()
+    world.cut_off("registry", filing(500, 1, os.urandom(LARGE)), filing(10, 1, b"other"))
     same("nobody knows", world.last("answered")["known"], False)
     judge("its contents stay", on_disk(world)[0] >= before[0] + LARGE, (before, on_disk(world)))
     same("the next one", world.act("registry", filing(501, 1, b"next"))[0], 200)

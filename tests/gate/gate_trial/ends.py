@@ -11,7 +11,7 @@ from gate_trial.base import made
 from kit.judging import judge, same
 from gate_trial.world import JOURNAL, PYTHON, WAIT_SECONDS, World, until
 
-sys.path.insert(0, str(JOURNAL.parent))
+sys.path[:0] = [str(JOURNAL.parent), str(JOURNAL.parent.parent)]
 
 from office_gate import chain  # noqa: E402
 
@@ -123,6 +123,9 @@ def begun(world: World, files: list[pathlib.Path], known: str) -> None:
     heads, oldest = heads_of(files), data[files[0].name].count(b"\n")
     status, said = run("check", laid(world, data), "--head", known)
     same("the journal itself", (status, counts(said)[1:]), (0, (1, 1, 0)))
+    line = known.split(":")[0]
+    judge("it says whose head it compared", f"heads compared: lines {line}\n" in said and "not met: lines" not in said, said)
+    named(laid(world, data), heads)
     without = {it: data[it] for it in data if it != files[0].name}
     status, said = run("check", laid(world, without), "--head", known)
     judge("the oldest file removed", status == 1 and f"lines 1 to {oldest} are not here" in said
@@ -133,6 +136,8 @@ def begun(world: World, files: list[pathlib.Path], known: str) -> None:
     place = laid(world, without)
     status, said = run("check", place, "--from", heads[oldest - 1], "--head", known, "--head", heads[oldest])
     same("with the head of what was archived", (status, counts(said)[1:]), (0, (oldest + 1, 1, 1)))
+    judge("it says whose head it did not meet", f"heads compared: lines {oldest + 1}\n" in said
+          and f"heads not met: lines {line}\n" in said, said)
     for what, head in (("another digest", f"{oldest}:{'0' * 64}"), ("another line", heads[oldest - 2]),
                        ("a later line", heads[oldest])):
         status, said = run("check", place, "--from", head)
@@ -140,6 +145,14 @@ def begun(world: World, files: list[pathlib.Path], known: str) -> None:
     same("a head for a whole journal", run("check", laid(world, data), "--from", heads[oldest - 1])[0], 1)
     two = known[:-1] + ("0" if known[-1] != "0" else "1")
     same("a line that was written down in two ways", run("check", laid(world, data), "--head", known, "--head", two)[0], 1)
+
+
+def named(place: pathlib.Path, heads: list[str]) -> None:
+    """The first twenty lines whose heads were compared are named, and the last one."""
+    for count, lines in ((20, range(1, 21)), (23, [*range(1, 21), "and 3 more to 23"])):
+        status, said = run("check", place, *(word for it in heads[:count] for word in ("--head", it)))
+        judge(f"{count} heads", status == 0 and f"heads compared: lines {', '.join(map(str, lines))}\n" in said, said)
+    judge("no head: none is named", "heads compared: lines" not in run("check", place)[1])
 
 
 def cut_at_the_end(world: World, files: list[pathlib.Path]) -> None:

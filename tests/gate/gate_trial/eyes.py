@@ -61,10 +61,7 @@ def opener(world: World) -> None:
     same("anna opens", world.act("anna", OPEN)[0], 200)
     eyes(world, "anna does not step", "anna", rule, STEP)
     same("anna does not resume", resume(world, "anna"), 403)
-    world.stop_gate()
-    for it in world.state.glob("facts.db*"):
-        it.unlink()
-    world.start_gate()
+    world.start_without_facts()
     same("nor after a start", resume(world, "anna"), 403)
     same("berta resumes", resume(world, "berta"), 200)
     same("then no run is open", resume(world, "anna"), 409)
@@ -268,10 +265,7 @@ def again(world: World) -> None:
     eyes(world, "while it is open", "anna", "confirmer-does-not-open", confirm(record))
     same("berta carries it out", resume(world, "berta"), 200)
     same("anna decides again at once", world.act("anna", confirm(record))[0], 200)
-    world.stop_gate()
-    for it in world.state.glob("facts.db*"):
-        it.unlink()
-    world.start_gate()
+    world.start_without_facts()
     same("and after a start", world.act("anna", confirm(record))[0], 200)
     # a run that somebody opened past the gate, since then
     number = past(world, {"act": "open-run", "by": "Anna A."})

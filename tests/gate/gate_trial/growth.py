@@ -8,7 +8,7 @@ from gate_trial.base import SETTINGS, filing, made
 from kit.judging import judge, same
 from gate_trial.world import JOURNAL, PYTHON, SOURCES, TOP, World, today
 
-sys.path.insert(0, str(JOURNAL.parent))
+sys.path[:0] = [str(JOURNAL.parent), str(JOURNAL.parent.parent)]
 
 from office_gate import chain  # noqa: E402
 

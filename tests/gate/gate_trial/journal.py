@@ -14,7 +14,7 @@ from gate_trial.base import SETTINGS, filing, made
 from kit.judging import judge, same
 from gate_trial.world import JOURNAL, PYTHON, World, until
 
-sys.path.insert(0, str(JOURNAL.parent))
+sys.path[:0] = [str(JOURNAL.parent), str(JOURNAL.parent.parent)]
 
 from office_gate import chain, checking  # noqa: E402
 from office_gate.errors import Refused  # noqa: E402

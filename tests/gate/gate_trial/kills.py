@@ -97,6 +97,8 @@ def tried(folder: pathlib.Path, requests: int, kills: int, seed: int) -> None:
     world.stop_office()
     world.log.close()
     subprocess.run([OFFICE, "init", str(world.file)], check=True, stdout=subprocess.DEVNULL)
+    # a copy is as old as its file, and FILE is older than each request
+    shutil.copyfile(world.file, folder / "now.db")
     print(f"sent {clients.sent}, answered {len(clients.heads)}, lost {clients.lost}, {time.time() - began:.0f} s",
           flush=True)
     judge("each answer names its line, or says that nothing was done", all(b'"error"' in it for it in clients.odd),
@@ -141,7 +143,7 @@ def answers(world: World, clients: Clients) -> None:
 def replayed(world: World, folder: pathlib.Path, clients: Clients, requests: int, kills: int) -> None:
     began = time.time()
     done = subprocess.run([PYTHON, "-I", JOURNAL, "replay", world.journal, folder / "copy.db", folder / "new.db",
-                           "--state", world.state, "--beside", world.file, "--moment", "2000-01-01"],
+                           "--state", world.state, "--beside", folder / "now.db", "--moment", "2000-01-01"],
                           capture_output=True, text=True, check=False)
     found = LAST.search(done.stdout)
     judge("the journal's acts give the file", done.returncode == 0 and found and found[5] == "0",

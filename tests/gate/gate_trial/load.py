@@ -14,7 +14,7 @@ from kit.judging import judge, same
 from gate_trial.stood import Stood
 from gate_trial.world import HERE, JOURNAL, TOKEN, World, today
 
-sys.path.insert(0, str(JOURNAL.parent))
+sys.path[:0] = [str(JOURNAL.parent), str(JOURNAL.parent.parent)]
 
 from office_gate import body as bodies  # noqa: E402
 from office_gate import deciding, members, requests  # noqa: E402

@@ -159,10 +159,7 @@ def repeated(world: World, memory: Memory) -> None:
     judge("the journal has none", "repeated" not in world.last("answered"))
     same("a closing of an earlier run closes none", resume(world, "anna"), 403)
     memory.is_marking = True
-    world.stop_gate()
-    for it in world.state.glob("facts.db*"):
-        it.unlink()
-    world.start_gate()
+    world.start_without_facts()
     same("nor after a start", resume(world, "anna"), 403)
     same("carl does", resume(world, "carl"), 200)
     judge("which is no repetition", "repeated" not in world.last("answered"))

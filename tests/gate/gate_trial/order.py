@@ -9,7 +9,7 @@ from gate_trial.calls import is_there
 from gate_trial.disk import NEVER
 from kit.judging import judge, same
 from gate_trial.seen import Act, Seen
-from gate_trial.workload import Client, alone, files, started, together, turned, unanswered
+from gate_trial.workload import turned, unanswered, worked
 
 LEAST = 20
 """the acts that the trial compares at least"""
@@ -19,13 +19,7 @@ def tried(folder: pathlib.Path) -> None:
     if not is_there():
         print("skipped: no strace", flush=True)
         return
-    world = started(folder)
-    client = Client(world)
-    alone(client)
-    files(client)
-    together(client, "A")
-    turned(client, "journal-20260101")
-    together(client, "B")
+    world, client = worked(folder)
     turned(client)
     unanswered(world, client)
     seen = Seen(world, world.calls())

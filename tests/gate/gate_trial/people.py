@@ -89,6 +89,7 @@ def histories(proxy: Proxy, language: str) -> None:
     it = Browser(proxy, "auditor", language)
     words = texts(language, "history")
     try:
+        it.settled()
         judge("who is signed in", "auditor" in it.one("#signed-in").text, it.one("#signed-in").text)
         it.open("record?number=1")
         unfold(it, "#record-history")

@@ -17,7 +17,7 @@ from gate_trial.calls import Traced, is_there
 from gate_trial.disk import Disk, File
 from kit.judging import judge, same
 from gate_trial.seen import Line, Seen, digests
-from gate_trial.workload import SETTINGS, Client, alone, files, placing, started, together, turned
+from gate_trial.workload import SETTINGS, placing, together, turned, worked
 from gate_trial.world import JOURNAL, SITE, SOURCES, TOKEN, World
 
 sys.path[:0] = [str(JOURNAL.parent), str(SOURCES / "vault"), str(SOURCES)]
@@ -45,13 +45,7 @@ def tried(folder: pathlib.Path) -> None:
     if not is_there():
         print("skipped: no strace", flush=True)
         return
-    world = started(folder / "world")
-    client = Client(world)
-    alone(client)
-    files(client)
-    together(client, "A")
-    turned(client, "journal-20260101")
-    together(client, "B")
+    world, client = worked(folder / "world")
     turned(client, "journal-20260102", creates=True)
     together(client, "C")
     seen = Seen(world, world.calls())
@@ -163,7 +157,7 @@ class Room:
 
     def begin(self) -> None:
         """Begins a gate as its service does, up to its first request."""
-        places = starting.Places(self.folder / "access", self.journal, self.state, self.folder / "token", None, None)
+        places = starting.Paths(self.folder / "access", self.journal, self.state, self.folder / "token", None, None)
 
         async def run() -> None:
             gate = starting.opened(places, "127.0.0.1:9")
@@ -268,5 +262,5 @@ def begun(room: Room, seen: Seen, promises: list[Promise], moment: int) -> None:
 
 
 def count_of(text: str) -> int:
-    """Returns how many heads a check compared."""
-    return int(text.partition("heads compared: ")[2].partition(",")[0])
+    """Returns how many heads a check compared, by its last line."""
+    return int(text.rpartition("heads compared: ")[2].partition(",")[0])

@@ -3,6 +3,7 @@ import hashlib
 import pathlib
 
 from gate_trial.base import ROLES, filing, made
+from gate_trial.eyes import OPEN, STEP, eyes, resume
 from kit.judging import judge, same
 from gate_trial.world import World
 
@@ -10,7 +11,6 @@ NAMES = "".join(f"name {it} is records-manager\nname {it} is archive\n" for it i
 NAMES += "name records-manager is records-manager\nname legal is legal\nname registry is registry\nname state is archive\n"
 NAMES += "name dora is department\nlimit requests 64\n"
 SENDS, RECEIVES = "sender-does-not-receive", "receiver-does-not-open"
-OPEN, STEP = {"act": "open-run"}, {"act": "run-step"}
 CONTENT = b"what is handed over"
 
 
@@ -32,17 +32,6 @@ def tried(folder: pathlib.Path) -> None:
     world.end()
 
 
-def eyes(world: World, what: str, name: str, rule: str, *acts: dict) -> None:
-    status, said = world.act(name, *acts)
-    seen = said if isinstance(said, dict) else {}
-    same(what, (status, seen.get("error"), seen.get("rule")), (403, "eyes", rule))
-    same(f"{what}: it is in the journal", world.last("refused")["name"], name)
-
-
-def carried(world: World, name: str) -> int:
-    return world.ask(name, "POST", "/run/resume", b"")[0]
-
-
 def confirmed(world: World, *numbers: int) -> list[int]:
     """Files records that go to the archive, and has them confirmed by somebody who does nothing else here."""
     acts = [filing(it, 1, CONTENT, schedule="T0") for it in numbers]
@@ -61,7 +50,7 @@ def sender(world: World) -> None:
     world.reload(f"{ROLES}{NAMES}rule {SENDS}\n")
     eyes(world, "nor by that rule alone", "anna", SENDS, receipt(first))
     eyes(world, "nor by who took a step", "berta", SENDS, receipt(first))
-    same("carl carries the rest out", carried(world, "carl"), 200)
+    same("carl carries the rest out", resume(world, "carl"), 200)
     for name in ("anna", "berta", "carl"):
         for record in (first, second):
             eyes(world, f"{name} sent record {record}", name, SENDS, receipt(record))
@@ -69,7 +58,7 @@ def sender(world: World) -> None:
     same("the archive files it", world.act("state", receipt(first))[1], [{"done": True}])
     # a run in which anna has no part
     third = confirmed(world, 12)[0]
-    same("berta opens, carl carries it out", (world.act("berta", OPEN)[0], carried(world, "carl")), (200, 200))
+    same("berta opens, carl carries it out", (world.act("berta", OPEN)[0], resume(world, "carl")), (200, 200))
     eyes(world, "it is berta's", "berta", SENDS, receipt(third))
     same("and not anna's", world.act("anna", receipt(third))[1], [{"done": True}])
     world.reload(f"{ROLES}{NAMES}rule {SENDS}\nrule {RECEIVES}\n")
@@ -80,46 +69,43 @@ def receiver(world: World) -> None:
     eyes(world, "anna filed a receipt", "anna", RECEIVES, OPEN)
     same("she may open none with a receipt in one list", world.act("anna", receipt(99), OPEN)[0], 403)
     same("carl, who filed none, opens", world.act("carl", OPEN)[0], 200)
-    same("berta carries it out", carried(world, "berta"), 200)
+    same("berta carries it out", resume(world, "berta"), 200)
     same("the contents are gone", [world.direct("GET", f"/records/{it}/content")[0] for it in (3, 5)], [404, 404])
     same("then anna opens one", world.act("anna", OPEN)[0], 200)
-    same("berta carries it out", carried(world, "berta"), 200)
+    same("berta carries it out", resume(world, "berta"), 200)
 
 
 def meanwhile(world: World) -> None:
     """While a run is open, whoever may carry it out files no receipt; the archive does."""
     record = confirmed(world, 20)[0]
-    same("berta opens, carl carries it out", (world.act("berta", OPEN)[0], carried(world, "carl")), (200, 200))
+    same("berta opens, carl carries it out", (world.act("berta", OPEN)[0], resume(world, "carl")), (200, 200))
     same("berta opens", world.act("berta", OPEN)[0], 200)
     eyes(world, "anna may carry it out", "anna", RECEIVES, receipt(record))
     same("the archive files it", world.act("state", receipt(record))[0], 200)
-    same("anna carries it out", carried(world, "anna"), 200)
+    same("anna carries it out", resume(world, "anna"), 200)
     same("it is ended", world.get("anna", f"/records/{record}")[1]["status"], "ended")
 
 
 def started(world: World) -> None:
     """A start of the gate changes nothing of it."""
     record = confirmed(world, 30)[0]
-    same("berta opens, carl carries it out", (world.act("berta", OPEN)[0], carried(world, "carl")), (200, 200))
+    same("berta opens, carl carries it out", (world.act("berta", OPEN)[0], resume(world, "carl")), (200, 200))
     for _ in range(2):
-        world.stop_gate()
-        for it in world.state.glob("facts.db*"):
-            it.unlink()
-        world.start_gate()
+        world.start_without_facts()
         eyes(world, "who opened it, after a start", "berta", SENDS, receipt(record))
         eyes(world, "who carried it out, after a start", "carl", SENDS, receipt(record))
     same("anna had no part in it", world.act("anna", receipt(record))[0], 200)
     world.stop_gate()
     world.start_gate()
     eyes(world, "who filed the receipt, after a start", "anna", RECEIVES, OPEN)
-    same("carl opens, berta carries it out", (world.act("carl", OPEN)[0], carried(world, "berta")), (200, 200))
+    same("carl opens, berta carries it out", (world.act("carl", OPEN)[0], resume(world, "berta")), (200, 200))
 
 
 def lone(world: World) -> None:
     """Without these rules one name does all of it."""
     world.reload(ROLES + NAMES)
     record = confirmed(world, 40)[0]
-    same("anna opens, and carries it out", (world.act("anna", OPEN)[0], carried(world, "anna")), (200, 200))
+    same("anna opens, and carries it out", (world.act("anna", OPEN)[0], resume(world, "anna")), (200, 200))
     same("she files the receipt, opens, and carries it out",
-         (world.act("anna", receipt(record), OPEN)[0], carried(world, "anna")), (200, 200))
+         (world.act("anna", receipt(record), OPEN)[0], resume(world, "anna")), (200, 200))
     same("it is ended", world.get("anna", f"/records/{record}")[1]["status"], "ended")

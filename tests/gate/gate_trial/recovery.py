@@ -2,7 +2,6 @@
 import datetime
 import pathlib
 import shutil
-import signal
 import subprocess
 import threading
 import time
@@ -71,18 +70,7 @@ def unread(world: World) -> None:
                                [{"act": "place-hold", "code": "UNREAD", "reason": "r"}, {"act": "lift-hold"}],
                                [{"act": "place-hold", "code": "STRANGE", "reason": "r", "strange": "no act has this"}],
                                [{"act": "lift-hold", "hold": "NONE"}], [{"act": "place-hold", "code": "READ", "reason": "r"}])):
-        world.office.send_signal(signal.SIGSTOP)
-        count = sum(it["what"] == "asked" for it in world.lines())
-        one = threading.Thread(target=world.act, args=("legal", *acts))
-        one.start()
-        while sum(it["what"] == "asked" for it in world.lines()) == count:
-            time.sleep(0.02)
-        # the office has the request by then
-        time.sleep(0.3)
-        world.stop_gate(signal.SIGKILL)
-        one.join()
-        world.office.send_signal(signal.SIGCONT)
-        world.start_gate()
+        world.cut_off("legal", *acts)
         same(f"list {at}: nobody knows", world.last("answered")["known"], False)
         same(f"list {at}: the next act", world.act("legal", {"act": "place-hold", "code": f"NEXT{at}", "reason": "r"})[0], 200)
 

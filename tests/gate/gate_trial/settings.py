@@ -38,6 +38,16 @@ SITES = {"http://localhost": 0, "http://localhost:8080": 0, "http://127.0.0.1:80
          "http://192.0.2.1": 2, "http://localhost.city.example": 2, "http://127.0.0.1.city.example": 2,
          "http://[2001:db8::1]": 2}
 MISSING = [("zone UTC\n", "site"), ("site https://localhost\n", "zone")]
+HEAD = "zone UTC\nsite https://localhost\n"
+BELOW, ABOVE = "no statement stands below 'end'", "'begin' stands above all other statements"
+OWN, CUT = "'begin' and 'end' have a line of their own", "the file is cut off: it has 'begin', but no 'end'"
+# files with marks in wrong places, and what is printed behind the name of the file
+MISPLACED = [(f"{HEAD}end\n", ":3: no 'begin' stands above this 'end'"), (f"{HEAD}begin\nend\n", f":3: {ABOVE}"),
+             (f"begin\nbegin\n{HEAD}end\n", f":2: {ABOVE}"), (f"begin\n{HEAD}end\nend\n", f":5: {BELOW}"),
+             (f"begin\n{HEAD}end\n# a remark\nkeep free 1\n", f":6: {BELOW}"), (f"begin\n{HEAD}end\nnonsense\n", f":5: {BELOW}"),
+             (f"begin {HEAD}end\n", f":1: {OWN}"), (f"begin\n{HEAD}end of it\n", f":4: {OWN}"), (f"begin\n{HEAD}", f": {CUT}"),
+             ("begin\n", f": {CUT}")]
+MARKED = f"# a remark\n\n begin # of all\n{HEAD}role a may confirm\nname x is a\nrule confirmer-does-not-open\nend # of all\n"
 
 
 def tried(folder: pathlib.Path) -> None:
@@ -57,6 +67,7 @@ def tried(folder: pathlib.Path) -> None:
     status, said = checked(place, f"zone UTC\nsite https://localhost\n{SETTINGS}name legal signs registry\n")
     judge("two names sign two texts", status == 2 and "'registry' of 'legal'" in said, said)
     alike(place)
+    marked(place)
     place.write_bytes(b"zone UTC\nsite https://localhost\n# \xff\n")
     judge("no UTF-8", f"{place}:3: " in run("check", str(place))[1])
     judge("a file that is not there", run("check", str(folder / "none"))[0] == 2)
@@ -77,6 +88,21 @@ def alike(place: pathlib.Path) -> None:
     for site, wanted in SITES.items():
         status, said = checked(place, f"zone UTC\nsite {site}\n")
         judge(f"site {site}: {wanted}", status == wanted and (wanted == 0 or f"{place}:2: " in said), (status, said))
+
+
+def marked(place: pathlib.Path) -> None:
+    """A mark in a wrong place is named with its line, and no part of a file with both marks is taken."""
+    for text, wanted in MISPLACED:
+        status, said = checked(place, text)
+        judge(f"{text!r} is refused", status == 2 and said == f"office-gate: {place}{wanted}\n", said)
+    same("a file with both marks", checked(place, MARKED)[0], 0)
+    end = MARKED.rindex("end #")
+    lines = [at for at, letter in enumerate(MARKED[:end], 1) if letter == "\n"]
+    for at in sorted({0, *lines, *range(lines[-2], end + 3)}):
+        judge(f"the first {at} letters of it are refused", checked(place, MARKED[:at])[0] == 2, MARKED[:at], is_quiet=True)
+    for at in (end + 3, end + 5, len(MARKED) - 1):
+        same(f"{at} letters have each statement", checked(place, MARKED[:at])[0], 0)
+    same("without `begin` a part of it is taken", checked(place, MARKED[:lines[-2]].replace("begin", "", 1))[0], 0)
 
 
 def run(*words: str) -> tuple[int, str]:
@@ -125,6 +151,10 @@ def changed(world: World) -> None:
     same("with a wrong file all stays", world.ask("registry", "GET", "/records/1")[0], 200)
     judge("the journal says nothing of it", all(it["what"] != "settings" for it in world.lines()[count:]))
     judge("but the service does, with its line", f"{world.settings}:1: " in (world.folder / "log").read_text())
+    world.settings.write_text("begin\nsite https://localhost\nzone UTC\n")
+    world.gate.send_signal(signal.SIGHUP)
+    judge("so with a file that is cut off", world.prints(f"{world.settings}: {CUT}"))
+    same("then all stays too", world.ask("registry", "GET", "/records/1")[0], 200)
     world.settings.write_text("site https://localhost\nzone UTC\n" + SETTINGS)
     sums = [it["sha256"] for it in world.lines() if it["what"] == "settings"]
     same("the journal has the SHA-256 of each", len(set(sums)), 2)

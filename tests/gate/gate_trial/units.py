@@ -127,13 +127,18 @@ def reported(it: Machine) -> int:
     return int(it.run(f"systemctl show -P WatchdogTimestampMonotonic {GATE}")[1])
 
 
+def added(line: str) -> str:
+    """Returns a command that adds a line to the settings, above their end."""
+    return f"sed '/^end$/i {line}' {ACCESS} > /root/more; cat /root/more > {ACCESS}"
+
+
 def started(it: Machine) -> None:
     """The socket starts the gate; a start returns once it answers; wrong settings end it for good, until they are right."""
     same("it tells that it is ready", it.run(f"systemctl show -P Type -P ActiveState {GATE}")[1].split(),
          ["notify", "active"])
     it.done(f"systemctl stop {GATE}")
     same("a request starts it", (it.run(READ)[1], it.run(f"systemctl is-active {GATE}")[1]), ("200", "active"))
-    it.done(f"cp {ACCESS} /root/access; echo 'rule nothing' >> {ACCESS}")
+    it.done(f"cp {ACCESS} /root/access; {added('rule nothing')}")
     judge("a reload with a wrong line fails", it.run(f"systemctl reload {GATE}")[0] != 0)
     same("and the gate goes on with the settings that it had", it.run(READ)[1], "200")
     judge("a restart with a wrong line fails", it.run(f"systemctl restart {GATE}")[0] != 0)
@@ -157,7 +162,7 @@ def restarted(it: Machine) -> None:
         clients.judge(what)
     with Clients(it) as clients:
         for at in range(4):
-            it.done(f"echo 'name extra{at} is auditor' >> {ACCESS}; systemctl reload {GATE}", "a reload")
+            it.done(f"{added(f'name extra{at} is auditor')}; systemctl reload {GATE}", "a reload")
             time.sleep(0.5)
     clients.judge("other settings")
     judge("they count", "extra3" in it.run(f"office-gate rights {ACCESS} extra3")[1])
@@ -217,7 +222,7 @@ def rotated(it: Machine) -> None:
     judge("each hold that was placed is in it", placed and all(f'"code":"{code}"' in lines for code in placed), len(placed))
     said = it.done(f"journalctl -u {GATE} --grep head > heads; office-journal check {JOURNAL} --heads heads",
                    "with the heads of systemd's journal")
-    judge("heads were compared", int(said.split("heads compared: ")[1].split(",")[0]) > 5, said)
+    judge("heads were compared", int(said.split("heads compared: ")[-1].split(",")[0]) > 5, said)
     said = it.run(f"cp {JOURNAL}-20260101 /root/kept; chattr -a {JOURNAL}-20260101; sed -i '3s/\"at\":\"2/\"at\":\"3/' "
                   f"{JOURNAL}-20260101; office-journal check {JOURNAL}")
     same("a line that root changed is found", said[0], 1)

@@ -181,3 +181,15 @@ def unanswered(world: Traced, client: Client) -> None:
         stand.told(answer)
         client.one(502, client.acts("legal", placing(f"LOST{len(answer)}")))
     stand.link.close()
+
+
+def worked(folder: pathlib.Path) -> tuple[Traced, Client]:
+    """Traces a gate through acts of many kinds, files, and lists that come together, with a rotation between these."""
+    world = started(folder)
+    client = Client(world)
+    alone(client)
+    files(client)
+    together(client, "A")
+    turned(client, "journal-20260101")
+    together(client, "B")
+    return world, client

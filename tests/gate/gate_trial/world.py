@@ -1,17 +1,22 @@
 """An office and a gate for the trial: the real program, served, and the gate at a socket of its own."""
+import contextlib
 import http.client
 import json
 import os
 import pathlib
+import shutil
 import signal
 import socket
+import sqlite3
 import subprocess
+import threading
 import time
 from collections.abc import Callable
 from typing import Any
 
 from kit.nginx import end
 from kit.ports import free_port
+from kit.sockets import rest_of
 
 TOP = pathlib.Path(__file__).resolve().parents[3]
 OFFICE = os.environ.get("OFFICE") or str(TOP / "crates/office/out/office")
@@ -20,12 +25,18 @@ GATE = SOURCES / "gate/office-gate"
 JOURNAL = SOURCES / "gate/office-journal"
 PYTHON = "/usr/bin/python3"
 TOKEN = "0123456789abcdef" * 4
+OFFICE_TOKEN = "fedcba9876543210" * 4
 HERE = {"Host": "localhost", "Origin": "https://localhost"}
 SITE = "site https://localhost\nzone {zone}\n"
+READER = "office-reader"
+READING = f"role {READER} reads records contents lists certificates\nname {READER} is {READER}\n"
+"""the rights of the reader, by whose name the gate asks an office that decides too"""
 
 
 STARTED: list[subprocess.Popen[Any]] = []
 """what the trial started, to end it however the trial ends"""
+ALIKE: list[str] = []
+"""with an item, each office decides too, by the settings of its gate"""
 LEADERS: set[int] = set()
 """which of these have a process group of their own"""
 BEGAN = [time.time()]
@@ -77,10 +88,14 @@ class World:
         self.catalogue = folder / "catalogue"
         self.state.mkdir()
         (folder / "token").write_text(TOKEN)
-        self.settings.write_text(SITE.format(zone="UTC") + settings)
         self.port = free_port()
         self.listener: socket.socket | None = None
         self.more: dict[str, str] = {}
+        # whether the office decides too, and whether it goes by the settings of the gate
+        self.decides, self.is_alike = False, bool(ALIKE)
+        if self.is_alike:
+            self.decide("")
+        self.settle(settings)
         self.office: subprocess.Popen | None = None
         self.gate: subprocess.Popen | None = None
         self.log = (folder / "log").open("wb")
@@ -88,7 +103,8 @@ class World:
     # ---- processes
 
     def start_office(self) -> None:
-        self.office = subprocess.Popen([OFFICE, "serve", str(self.file), str(self.port), "1000000"],
+        verb, more = ("gate", self.deciding()) if self.decides else ("serve", [])
+        self.office = subprocess.Popen([OFFICE, verb, str(self.file), str(self.port), "1000000", *more],
                                        stdout=subprocess.PIPE, stderr=self.log)
         STARTED.append(self.office)
         assert self.office.stdout.readline().startswith(b"listening")
@@ -106,7 +122,37 @@ class World:
                  "--journal", self.journal,
                  "--state", self.state, "--token", self.folder / "token", "--socket", self.place,
                  "--catalogue", self.catalogue]
+        if self.decides:
+            words += ["--office-token", self.folder / "office-token", "--office-reader", READER]
         return list(map(str, words))
+
+    # ---- an office that decides too
+
+    def decide(self, settings: str) -> None:
+        """Has the office decide too, by settings of its own, from its next start on."""
+        self.decides = True
+        (self.folder / "office-token").write_text(OFFICE_TOKEN)
+        self.office_access(settings)
+
+    def office_access(self, settings: str, zone: str = "UTC") -> None:
+        """Gives such an office other settings, which count for its next request."""
+        new = self.folder / "office-access.new"
+        new.write_text(SITE.format(zone=zone) + settings)
+        new.rename(self.folder / "office-access")
+
+    def deciding(self) -> list[str]:
+        return [str(self.folder / it) for it in ("office-access", "office-token")]
+
+    def office_column(self, query: str) -> list[Any]:
+        """Reads a copy of FILE and its log: each act that was answered is in it."""
+        place = self.folder / "read.db"
+        for end in ("", "-wal"):
+            source, copy = pathlib.Path(f"{self.file}{end}"), pathlib.Path(f"{place}{end}")
+            copy.unlink(missing_ok=True)
+            if source.exists():
+                shutil.copyfile(source, copy)
+        with contextlib.closing(sqlite3.connect(place)) as db:
+            return [row[0] for row in db.execute(query)]
 
     def start_gate(self) -> None:
         self.gate = subprocess.Popen(self.words(), stdout=subprocess.PIPE, stderr=self.log,
@@ -134,13 +180,47 @@ class World:
         self.gate = None
         return status
 
+    def start_without_facts(self, number: signal.Signals = signal.SIGTERM) -> None:
+        """Starts the gate anew without the facts, which it then derives from its journal."""
+        self.stop_gate(number)
+        for path in self.state.glob("facts.db*"):
+            path.unlink()
+        self.start_gate()
+
+    def cut_off(self, name: str, *acts: dict[str, Any]) -> None:
+        """Kills the gate while the office has a list, whose line is in the journal, and starts it anew."""
+        self.office.send_signal(signal.SIGSTOP)
+        count = sum(line["what"] == "asked" for line in self.lines())
+        client = threading.Thread(target=self.act, args=(name, *acts))
+        client.start()
+        while sum(line["what"] == "asked" for line in self.lines()) == count:
+            time.sleep(0.02)
+        # the office has the request by then
+        time.sleep(0.3)
+        self.stop_gate(signal.SIGKILL)
+        client.join()
+        self.office.send_signal(signal.SIGCONT)
+        self.start_gate()
+
+    def settle(self, settings: str, zone: str = "UTC") -> None:
+        """Writes the settings of the gate, and gives them to an office that goes by the same ones."""
+        if self.is_alike:
+            settings += READING
+            self.office_access(settings, zone)
+        self.settings.write_text(SITE.format(zone=zone) + settings)
+
     def reload(self, settings: str, zone: str = "UTC") -> None:
         """Gives the gate other settings, and waits until they count."""
-        self.settings.write_text(SITE.format(zone=zone) + settings)
+        self.settle(settings, zone)
         count = len(self.lines())
         self.gate.send_signal(signal.SIGHUP)
         if not until(lambda: any(it["what"] == "settings" for it in self.lines()[count:])):
             raise AssertionError("the settings were not taken")
+
+    def hang_up(self) -> None:
+        """Has the gate read its settings anew."""
+        assert self.gate is not None
+        self.gate.send_signal(signal.SIGHUP)
 
     def prints(self, text: str) -> bool:
         """Waits until the gate printed something."""
@@ -170,13 +250,7 @@ class World:
             if half:
                 time.sleep(later)
                 link.shutdown(socket.SHUT_WR)
-            found = b""
-            try:
-                while block := link.recv(1 << 20):
-                    found += block
-            except ConnectionError:
-                pass
-            return found
+            return rest_of(link)
 
     def ask(self, name: str, method: str, path: str, body: bytes | None = None,
             lines: dict[str, str] | None = None) -> tuple[int, bytes]:

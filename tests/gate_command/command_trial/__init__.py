@@ -1,0 +1,1 @@
+"""The parts of the trial of `office gate`, with what they share."""
