@@ -29,22 +29,24 @@ extendedKeyUsage = critical,timeStamping
 
 
 class Authority:
-    """An authority at a port, with its certificate in a file."""
+    """An authority at a port, with its certificate in a file, which is good for some days from its clock on."""
 
-    def __init__(self, folder: pathlib.Path) -> None:
+    def __init__(self, folder: pathlib.Path, days: int = 2, clock: str = "") -> None:
         folder.mkdir(parents=True)
+        self.clock = clock
         self.folder, self.certificate = folder, folder / "ca.pem"
         self.refuses = self.replays = self.forges = False
         (folder / "conf").write_text(CONFIG.format(folder=folder))
         (folder / "serial").write_text("01\n")
-        self.openssl("req", "-x509", "-newkey", "rsa:2048", "-nodes", "-days", "2", "-subj", f"/CN=CA {folder.name}",
+        self.openssl("req", "-x509", "-newkey", "rsa:2048", "-nodes", "-days", str(days), "-subj", f"/CN=CA {folder.name}",
                      "-keyout", "ca.key", "-out", "ca.pem")
         self.openssl("req", "-newkey", "rsa:2048", "-nodes", "-subj", "/CN=TSA", "-keyout", "tsa.key", "-out", "tsa.csr")
-        self.openssl("x509", "-req", "-in", "tsa.csr", "-CA", "ca.pem", "-CAkey", "ca.key", "-CAcreateserial", "-days", "2",
+        self.openssl("x509", "-req", "-in", "tsa.csr", "-CA", "ca.pem", "-CAkey", "ca.key", "-CAcreateserial", "-days", str(days),
                      "-extfile", "conf", "-extensions", "tsa_ext", "-out", "tsa.pem")
 
     def openssl(self, *words: str) -> None:
-        subprocess.run(["openssl", *words], cwd=self.folder, check=True, capture_output=True)
+        clock = ["faketime", "-f", self.clock] if self.clock else []
+        subprocess.run([*clock, "openssl", *words], cwd=self.folder, check=True, capture_output=True)
 
     def reply(self, query: bytes) -> bytes:
         """The stamp of a query; if it replays that of one of its own; if it forges that of other bytes, nonce alike."""

@@ -11,7 +11,7 @@ HEAD = re.compile(r"CERTIFICATE ([1-9][0-9]*)\nDAY ([0-9]{4}-[0-9]{2}-[0-9]{2})\
                   r"ENDED [0-9]+\nSENT ([0-9]+)\nSKIPPED [0-9]+\n")
 LAST = re.compile(rb"SHA256 ([0-9a-f]{64})\n")
 DIGEST = re.compile(r"[0-9a-f]{64}")
-WORDS = 11
+FIELDS = 11
 
 
 @dataclass(frozen=True)
@@ -40,7 +40,7 @@ class Certificate:
     entries: tuple[Entry, ...]
 
     def digest(self) -> str:
-        """The SHA-256 of the whole text."""
+        """Returns the SHA-256 of the whole text."""
         return hashlib.sha256(self.text).hexdigest()
 
 
@@ -61,8 +61,8 @@ def read(text: bytes, run: int) -> Certificate:
 
 
 def entry(line: str) -> Entry:
-    words = line.split("\t")
-    if len(words) != WORDS or not DIGEST.fullmatch(words[-1]):
+    fields = line.split("\t")
+    if len(fields) != FIELDS or not DIGEST.fullmatch(fields[-1]):
         raise ValueError(f"an entry has other words: {line[:80]!r}")
-    record, length = int(words[1]), int(words[9])
-    return Entry(record, *words[2:7], confirmed_by=words[8], length=length, digest=words[10])
+    record, length = int(fields[1]), int(fields[9])
+    return Entry(record, *fields[2:7], confirmed_by=fields[8], length=length, digest=fields[10])

@@ -45,12 +45,12 @@ def read(at: Path) -> list[Sent]:
     if (base / "files.csv").is_file():
         for row in rows(at, base / "files.csv", sealed):
             larges.setdefault(int(row["record"]), []).append(part_in(row))
-    found = [Sent(int(row["record"]), row["ref"],
-                  (part_in(row), *larges.get(int(row["record"]), [])))
-             for row in rows(at, base / "records.csv", sealed)]
-    if not found:
+    records = [Sent(int(row["record"]), row["ref"],
+                    (part_in(row), *larges.get(int(row["record"]), [])))
+               for row in rows(at, base / "records.csv", sealed)]
+    if not records:
         raise Refused(WRONG, f"{at} has no records")
-    return found
+    return records
 
 
 def part_in(row: dict[str, str]) -> Part:
@@ -82,7 +82,7 @@ def answer_of(at: Path, part: Part, challenge: str) -> str:
 
 
 def sealed_in(at: Path) -> dict[str, str]:
-    """The digests of the files of metadata."""
+    """Returns the digests of the files of metadata."""
     try:
         return bag.listed(at, bag.MANIFESTS[1]) if (at / "bagit.txt").is_file() else package.metadata(at)
     except (OSError, ValueError, SyntaxError) as why:

@@ -2,18 +2,16 @@
 from __future__ import annotations
 
 import contextlib
-import fcntl
 import filecmp
 import hashlib
 import os
-import shutil
-import tempfile
 from collections.abc import Iterable, Iterator
 from dataclasses import dataclass, field
 from pathlib import Path
 
+from office_common import files
 from office_common.errors import IMPOSSIBLE, WRONG, Refused
-from office_common.files import locked, sync
+from office_common.files import sync
 
 
 @dataclass(frozen=True)
@@ -35,16 +33,16 @@ class Folder:
 
     def put(self, name: str, parts: Iterable[bytes], media: str) -> File:
         """Writes a new file to the disk, and returns what it is."""
-        path, found, length = self.path / name, hashlib.sha256(), 0
+        path, sha256, length = self.path / name, hashlib.sha256(), 0
         path.parent.mkdir(parents=True, exist_ok=True)
         with path.open("xb") as file:
             for part in parts:
                 file.write(part)
-                found.update(part)
+                sha256.update(part)
                 length += len(part)
             file.flush()
             os.fsync(file.fileno())
-        self.files.append(File(name, found.hexdigest(), length, media))
+        self.files.append(File(name, sha256.hexdigest(), length, media))
         return self.files[-1]
 
 
@@ -57,41 +55,13 @@ def parent_of(target: Path) -> Path:
 
 @contextlib.contextmanager
 def new_folder(target: Path) -> Iterator[Folder]:
-    """Gives a folder beside the target, under a name that begins with a dot. What is left of it at the end goes.
-
-    First it removes what a run that was killed left: whoever is at work holds the lock of its folder.
-    """
-    parent = parent_of(target)
-    start = f".{target.name[:100]}.new-"
-    for left in parent.glob(f"{glob_safe(start)}*"):
-        with contextlib.suppress(Refused), locked(left):
-            shutil.rmtree(left)
-    path, handle = locked_folder(parent, start)
-    try:
+    """Gives a folder beside the target, under a name that begins with a dot."""
+    with files.new_folder(parent_of(target), f".{target.name[:100]}.new-") as path:
         yield Folder(path)
-    finally:
-        shutil.rmtree(path, ignore_errors=True)
-        os.close(handle)
-
-
-def locked_folder(parent: Path, start: str) -> tuple[Path, int]:
-    """Makes a folder and takes its lock. Another run may remove one that is not locked yet: then it makes another."""
-    while True:
-        path = Path(tempfile.mkdtemp(prefix=start, dir=parent))
-        with contextlib.suppress(FileNotFoundError):
-            handle = os.open(path, os.O_RDONLY | os.O_DIRECTORY)
-            fcntl.flock(handle, fcntl.LOCK_EX)
-            if path.exists():
-                return path, handle
-            os.close(handle)
-
-
-def glob_safe(text: str) -> str:
-    return "".join(f"[{it}]" if it in "[]*?" else it for it in text)
 
 
 def differing(one: Path, other: Path) -> list[str]:
-    """The names of files that are in one of two folders alone, or have other bytes in the other."""
+    """Returns the names of files that are in one of two folders alone, or have other bytes in the other."""
     sides = [{str(it.relative_to(side)) for it in side.rglob("*") if not it.is_dir()} for side in (one, other)]
     both = sides[0] & sides[1]
     return sorted((sides[0] ^ sides[1]) | {it for it in both if not filecmp.cmp(one / it, other / it, shallow=False)})

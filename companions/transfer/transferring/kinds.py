@@ -72,7 +72,7 @@ def zipped(data: bytes) -> Kind:
 
 
 def is_text(data: bytes) -> bool:
-    """Whether the bytes read as text in UTF-8; a letter may be cut at their end."""
+    """Returns whether the bytes read as text in UTF-8; a letter may be cut at their end."""
     try:
         text = data.decode()
     except UnicodeDecodeError as why:
@@ -83,9 +83,9 @@ def is_text(data: bytes) -> bool:
 
 
 def by_bytes(data: bytes) -> Kind:
-    found = next((kind for start, kind in MAGIC if data.startswith(start)), None)
-    if found is not None:
-        return found
+    match = next((kind for start, kind in MAGIC if data.startswith(start)), None)
+    if match is not None:
+        return match
     if data.startswith(b"PK\x03\x04"):
         return zipped(data)
     if data.startswith(b"\xd0\xcf\x11\xe0\xa1\xb1\x1a\xe1"):
@@ -105,9 +105,9 @@ def by_bytes(data: bytes) -> Kind:
 
 def kind_of(data: bytes, *names: str) -> Kind:
     """Finds the kind of a content by its first bytes. Names decide only between kinds that begin alike."""
-    found = by_bytes(data[:FIRST])
+    kind = by_bytes(data[:FIRST])
     for name in names:
         ending = re.search(r"\.[A-Za-z0-9]{1,8}$", name)
-        if ending and ending[0].lower() in SAME_START.get(found, {}):
-            return Kind(ending[0].lower(), SAME_START[found][ending[0].lower()])
-    return found
+        if ending and ending[0].lower() in SAME_START.get(kind, {}):
+            return Kind(ending[0].lower(), SAME_START[kind][ending[0].lower()])
+    return kind

@@ -49,26 +49,26 @@ def read(file: Path) -> Read:
     rows = [it for it in re.split(ENDS, text) if it.strip()]
     if not rows:
         raise Refused(USAGE, f"{file} is empty")
-    found = sums(text) if SUM.fullmatch(rows[0]) else table(text, rows[0])
-    if not found.lines:
+    listing = sums(text) if SUM.fullmatch(rows[0]) else table(text, rows[0])
+    if not listing.lines:
         raise Refused(USAGE, f"{file} has no line with a SHA-256, of 64 hexadecimal digits")
-    return found
+    return listing
 
 
 def sums(text: str) -> Read:
     """Lines as `DIGEST  PATH`. What BagIt writes as %0A, %0D and %25, and sha256sum with a backslash, is undone."""
     lines, wrong = [], []
     for at, row in enumerate(re.split(ENDS, text), 1):
-        found = SUM.fullmatch(row)
-        if found:
-            lines.append(Line(at, found[1].lower(), path_of(found[2])))
+        match = SUM.fullmatch(row)
+        if match:
+            lines.append(Line(at, match[1].lower(), path_of(match[2])))
         elif row.strip():
             wrong.append(f"line {at} has no SHA-256 and path: {row[:80]!r}")
     return Read(tuple(lines), tuple(wrong))
 
 
 def path_of(text: str) -> str:
-    """A path as the bag has it, from any system."""
+    """Returns a path as the bag has it, from any system."""
     for code, letter in (("%0A", "\n"), ("%0D", "\r"), ("%25", "%")):
         text = text.replace(code, letter).replace(code.lower(), letter)
     return re.sub("/+", "/", text.strip().replace("\\", "/")).removeprefix("./")
@@ -96,7 +96,7 @@ def table(text: str, header: str) -> Read:
 
 
 def line_of(at: int, cells: list[str]) -> Line | str:
-    """A row as a line, or what is wrong with it."""
+    """Returns a row as a line, or what is wrong with it."""
     digest, path, number, ref = cells
     if not DIGEST.fullmatch(digest.lower()):
         return f"line {at} has no SHA-256: {digest[:80]!r}"

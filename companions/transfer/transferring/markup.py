@@ -9,17 +9,17 @@ DECLARATION = '<?xml version="1.0" encoding="UTF-8"?>\n'
 
 
 def clean(text: str) -> str:
-    """The text with U+FFFD in place of each character that XML 1.0 does not take."""
+    """Returns the text with U+FFFD in place of each character that XML 1.0 does not take."""
     return FORBIDDEN.sub("\ufffd", text)
 
 
 def text(name: str, value: object, **attributes: object) -> str:
-    """An element with a text."""
+    """Returns an element with a text."""
     return f"<{name}{written(attributes)}>{escape(clean(str(value)))}</{name}>\n"
 
 
 def element(tag: str, *within: str, **attributes: object) -> str:
-    """An element with other elements."""
+    """Returns an element with other elements."""
     inner = "".join(within)
     return f"<{tag}{written(attributes)}>\n{inner}</{tag}>\n" if inner else f"<{tag}{written(attributes)}/>\n"
 

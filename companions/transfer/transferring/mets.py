@@ -32,7 +32,7 @@ class Package:
     version: str
 
     def created(self) -> str:
-        """The moment that METS wants: the day of the run, so that a second package has the same bytes."""
+        """Returns the moment that METS wants: the day of the run, so that a second package has the same bytes."""
         return f"{self.day}T00:00:00Z"
 
 
@@ -57,7 +57,7 @@ def sums(file: File, of: Package) -> dict[str, object]:
 
 
 def reference(file: File, of: Package, kind: str, other: str | None = None) -> str:
-    """A reference to a file of metadata."""
+    """Returns a reference to a file of metadata."""
     return element("mdRef", LOCTYPE="URL", xlink__type="simple", xlink__href=quote(file.name), MDTYPE=kind,
                    OTHERMDTYPE=other, **sums(file, of))
 
@@ -71,13 +71,13 @@ def preserved(identifier: str, of: Package, file: File, kind: str, other: str | 
 
 
 def located(identifier: str, file: File, of: Package, base: str) -> str:
-    """A file of a group, with its place below `base`."""
+    """Returns a file of a group, with its place below `base`."""
     place = element("FLocat", LOCTYPE="URL", xlink__type="simple", xlink__href=quote(file.name.removeprefix(base)))
     return element("file", place, ID=identifier, **sums(file, of))
 
 
 def representation(of: Package, base: str, groups: list[tuple[str, list[File]]]) -> bytes:
-    """The METS of the representation in the folder `base`: each record with its title and its files."""
+    """Returns the METS of the representation in the folder `base`: each record with its title and its files."""
     files, records, at = [], [], 0
     for label, within in groups:
         pointers = []
@@ -98,7 +98,7 @@ def representation(of: Package, base: str, groups: list[tuple[str, list[File]]])
 
 
 def package(of: Package, descriptive: list[File], premis: File, certificate: File, rep: File) -> bytes:
-    """The METS of the package: its metadata, and the METS of its one representation."""
+    """Returns the METS of the package: its metadata, and the METS of its one representation."""
     described_by = [described(f"described-{at}", of, it, "CSV") for at, it in enumerate(descriptive, 1)]
     folder = rep.name.rpartition("/")[0].capitalize()
     group = element("fileGrp", located("representation-mets", rep, of, ""), ID="representation", USE=folder,

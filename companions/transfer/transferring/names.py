@@ -20,12 +20,12 @@ def safe(text: str, longest: int) -> str:
 
 
 def without(text: str, ending: str) -> str:
-    """The text without an ending that the name gets anyway."""
+    """Returns the text without an ending that the name gets anyway."""
     return text[:-len(ending)] if text.lower().endswith(ending) else text
 
 
 def stem(number: int, ref: str, title: str) -> str:
-    """The name of a record without an ending. Its number comes first and keeps any two names apart."""
+    """Returns the name of a record without an ending. Its number comes first and keeps any two names apart."""
     parts = [f"{number:06}", safe(ref, LONGEST_REF), safe(title, LONGEST_TITLE)]
     # a record that is filed from a file has its name as ref and as title
     parts = parts[:2] if parts[2] == parts[1] else parts
@@ -33,12 +33,12 @@ def stem(number: int, ref: str, title: str) -> str:
 
 
 def record_name(number: int, ref: str, title: str, kind: Kind) -> str:
-    """The name of a record's content."""
+    """Returns the name of a record's content."""
     return stem(number, without(ref, kind.ending), without(title, kind.ending)) + kind.ending
 
 
 def file_name(at: int, place: str, kind: Kind) -> str:
-    """The name of a large file: its place among the files of its record, and the last part of the name it had."""
+    """Returns the name of a large file: its place among the files of its record, and the end of its own name."""
     shown = "" if place.startswith("vault:") else re.split(r"[/\\]", place)[-1]
     own = safe(without(shown, kind.ending), LONGEST_TITLE)
     return "_".join(it for it in (f"{at:04}", own) if it) + kind.ending

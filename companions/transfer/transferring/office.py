@@ -43,8 +43,8 @@ class Office:
 
     def get(self, path: str) -> bytes | None:
         """Returns the whole body of a GET; None if the office answers that it has no such thing."""
-        found = self.parts_of(path)
-        return None if found is None else b"".join(found)
+        parts = self.parts_of(path)
+        return None if parts is None else b"".join(parts)
 
     def json(self, path: str) -> Any:
         """Returns the JSON at a path; None if the office answers that it has no such thing."""

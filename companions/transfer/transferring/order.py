@@ -54,9 +54,9 @@ def write(folder: Path, base: str, run: int) -> None:
 def challenge_in(place: Path) -> str:
     """Reads the challenge of an order."""
     try:
-        found = CHALLENGE.search(place.read_text())
+        match = CHALLENGE.search(place.read_text())
     except (OSError, UnicodeDecodeError) as why:
         raise Refused(USAGE, f"the order {place} cannot be read: {why}") from why
-    if found is None:
+    if match is None:
         raise Refused(USAGE, f"{place} is no order of office-transfer: it has no challenge")
-    return found[1]
+    return match[1]

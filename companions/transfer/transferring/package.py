@@ -20,30 +20,30 @@ HREF = "{http://www.w3.org/1999/xlink}href"
 def write(folder: Folder, sources: Sources, of: Certificate, sender: str, identifier: str, version: str) -> Payload:
     """Writes a whole package. Nothing in it depends on the clock."""
     about = mets.Package(identifier, of.day, sender, PROGRAM, version)
-    found = fill(folder, sources, of, f"{REP}/data")
+    written = fill(folder, sources, of, f"{REP}/data")
     payload = list(folder.files)
-    descriptive = [folder.put(f"metadata/descriptive/{name}", [data], CSV) for name, data in tables(found).items()]
+    descriptive = [folder.put(f"metadata/descriptive/{name}", [data], CSV) for name, data in tables(written).items()]
     preservation = folder.put("metadata/preservation/premis.xml", [premis(payload, of)], XML)
     certificate = folder.put(f"metadata/other/certificate-{of.run}.txt", [of.text], PLAIN)
-    rep = folder.put(f"{REP}/METS.xml", [mets.representation(about, f"{REP}/", found.groups)], XML)
+    rep = folder.put(f"{REP}/METS.xml", [mets.representation(about, f"{REP}/", written.groups)], XML)
     # the METS of the package comes last, because a folder without it is no package
     folder.put("METS.xml", [mets.package(about, descriptive, preservation, certificate, rep)], XML)
-    return found
+    return written
 
 
 def faults(at: Path) -> list[str]:
     """What is wrong with a package as the disk has it: each file is named by a METS, with its SHA-256 and length."""
-    found: list[str] = []
+    faulty: list[str] = []
     named = {"METS.xml"}
     for name in ("METS.xml", f"{REP}/METS.xml"):
         base = name.removesuffix("METS.xml")
-        for it in tree.parse(at / name).iter():
-            digest, place = it.get("CHECKSUM"), it.get(HREF) or next((below.get(HREF) for below in it), None)
+        for node in tree.parse(at / name).iter():
+            digest, place = node.get("CHECKSUM"), node.get(HREF) or next((below.get(HREF) for below in node), None)
             if digest is not None and place is not None:
                 named.add(base + unquote(place))
-                found += wrong_in(at, base + unquote(place), digest, it.get("SIZE"))
+                faulty += wrong_in(at, base + unquote(place), digest, node.get("SIZE"))
     there = {it.relative_to(at).as_posix() for it in at.rglob("*") if not it.is_dir()}
-    return found + [f"no METS names {it}" for it in sorted(there - named)]
+    return faulty + [f"no METS names {it}" for it in sorted(there - named)]
 
 
 def wrong_in(at: Path, name: str, digest: str, length: str | None) -> list[str]:
@@ -55,10 +55,10 @@ def wrong_in(at: Path, name: str, digest: str, length: str | None) -> list[str]:
 
 
 def metadata(at: Path) -> dict[str, str]:
-    """The SHA-256 of each file that the METS of the package names, by its name."""
-    found = {}
-    for it in tree.parse(at / "METS.xml").iter():
-        digest, place = it.get("CHECKSUM"), it.get(HREF)
+    """Returns the SHA-256 of each file that the METS of the package names, by its name."""
+    digests = {}
+    for node in tree.parse(at / "METS.xml").iter():
+        digest, place = node.get("CHECKSUM"), node.get(HREF)
         if digest is not None and place is not None:
-            found[unquote(place)] = digest
-    return found
+            digests[unquote(place)] = digest
+    return digests

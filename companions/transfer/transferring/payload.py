@@ -46,20 +46,20 @@ class Sources:
 
 def fill(folder: Folder, sources: Sources, of: Certificate, base: str) -> Payload:
     """Writes all that the run sent and is still there below `base`; what is gone is a row of what is lacking."""
-    found = Payload()
+    payload = Payload()
     for record, content in sent(sources.office, of):
         if record.gone:
             entry = record.entry
-            found.lacking.append([entry.record, entry.ref, 0, entry.digest, record.gone])
+            payload.lacking.append([entry.record, entry.ref, 0, entry.digest, record.gone])
         else:
-            put_record(folder, sources, record, content, base, found)
-    if not found.records:
-        why = "".join(f"; record {it[0]}, {it[1]}: {it[4]}" for it in found.lacking[:20])
+            put_record(folder, sources, record, content, base, payload)
+    if not payload.records:
+        why = "".join(f"; record {it[0]}, {it[1]}: {it[4]}" for it in payload.lacking[:20])
         raise Refused(WRONG, f"run {of.run} sent nothing that is still there{why}")
-    return found
+    return payload
 
 
-def put_record(folder: Folder, sources: Sources, record: Record, content: bytes, base: str, found: Payload) -> None:
+def put_record(folder: Folder, sources: Sources, record: Record, content: bytes, base: str, payload: Payload) -> None:
     """Writes one content. A manifest gets a folder, together with the files that it names."""
     entry = record.entry
     larges = read(content) or []
@@ -69,44 +69,45 @@ def put_record(folder: Folder, sources: Sources, record: Record, content: bytes,
     file = folder.put(name, [content], kind.media)
     if file.digest != entry.digest:
         raise Refused(WRONG, f"the content of record {entry.record} is not the one of the certificate")
-    found.records.append([entry.record, entry.ref, record.title, record.originated, record.added, record.aggregation,
-                          *aggregation_of(sources, record), entry.class_code, entry.schedule, entry.due,
-                          entry.confirmed_by, file.digest, file.length, file.name])
+    payload.records.append([entry.record, entry.ref, record.title, record.originated, record.added, record.aggregation,
+                            *aggregation_of(sources, record), entry.class_code, entry.schedule, entry.due,
+                            entry.confirmed_by, file.digest, file.length, file.name])
     files = [file]
-    for at, it in enumerate(larges, 1):
-        put = put_large(folder, sources, record, at, it, own)
-        found.files.append([entry.record, entry.ref, at, it.digest, it.length, it.place, put.name if put else ""])
+    for at, named in enumerate(larges, 1):
+        put = put_large(folder, sources, record, at, named, own)
+        name = put.name if put else ""
+        payload.files.append([entry.record, entry.ref, at, named.digest, named.length, named.place, name])
         if put is None:
-            found.lacking.append([entry.record, entry.ref, at, it.digest, f"the vault lacks it: {it.place}"])
+            payload.lacking.append([entry.record, entry.ref, at, named.digest, f"the vault lacks it: {named.place}"])
         else:
             files.append(put)
-    found.groups.append((f"{entry.ref}: {record.title}", files))
+    payload.groups.append((f"{entry.ref}: {record.title}", files))
 
 
-def put_large(folder: Folder, sources: Sources, record: Record, at: int, it: Named, own: str) -> File | None:
+def put_large(folder: Folder, sources: Sources, record: Record, at: int, named: Named, own: str) -> File | None:
     """Writes a large file from the vault; None if the vault lacks it."""
     parts = large.fetched(sources.vault, record.entry.record, at)
     if parts is None:
         return None
     first = next(parts, b"")
-    kind = kind_of(first[:FIRST], it.place)
-    found = folder.put(f"{own}/{file_name(at, it.place, kind)}", (part for rest in ([first], parts) for part in rest),
-                       kind.media)
-    if found.digest != it.digest or found.length != it.length:
+    kind = kind_of(first[:FIRST], named.place)
+    file = folder.put(f"{own}/{file_name(at, named.place, kind)}", (part for rest in ([first], parts) for part in rest),
+                      kind.media)
+    if file.digest != named.digest or file.length != named.length:
         raise Refused(WRONG, f"file {at} of record {record.entry.record} is not the one of its manifest: the vault has "
                              "it damaged")
-    return found
+    return file
 
 
 def aggregation_of(sources: Sources, record: Record) -> list[object]:
-    """The ref and the title of a record's aggregation; empty if the caller goes without a catalogue."""
+    """Returns the ref and the title of a record's aggregation; empty if the caller goes without a catalogue."""
     if sources.aggregations is None:
         return ["", ""]
-    found: Aggregation | None = sources.aggregations.get(record.aggregation)
-    if found is None:
+    aggregation: Aggregation | None = sources.aggregations.get(record.aggregation)
+    if aggregation is None:
         raise Refused(IMPOSSIBLE, f"the catalogue lacks aggregation {record.aggregation}: is it older, or of another "
                                   "office?")
-    return [found.ref, found.title]
+    return [aggregation.ref, aggregation.title]
 
 
 def table(columns: list[str], rows: list[list[object]]) -> bytes:
@@ -115,8 +116,8 @@ def table(columns: list[str], rows: list[list[object]]) -> bytes:
     return out.getvalue().encode()
 
 
-def tables(found: Payload) -> dict[str, bytes]:
-    """The tables of a transfer, by their names: files and what is lacking only if there are any."""
-    every = {"records.csv": (RECORDS, found.records), "files.csv": (FILES, found.files),
-             "lacking.csv": (LACKING, found.lacking)}
+def tables(payload: Payload) -> dict[str, bytes]:
+    """Returns the tables of a transfer, by their names: files and what is lacking only if there are any."""
+    every = {"records.csv": (RECORDS, payload.records), "files.csv": (FILES, payload.files),
+             "lacking.csv": (LACKING, payload.lacking)}
     return {name: table(columns, rows) for name, (columns, rows) in every.items() if rows}

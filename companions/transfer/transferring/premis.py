@@ -12,7 +12,7 @@ PROGRAM = "tools/transfer"
 
 
 def premis(files: list[File], of: Certificate) -> bytes:
-    """The whole document."""
+    """Returns the whole document."""
     event, person = f"disposal-run-{of.run}", of.by
     parts = [*map(file_object, files), run_event(files, of, event, person), agent(person, "person"),
              agent(PROGRAM, "software")]
@@ -34,8 +34,8 @@ def file_object(file: File) -> str:
 
 
 def run_event(files: list[File], of: Certificate, event: str, person: str) -> str:
-    what = f"sent by disposal run {of.run}; its certificate has the SHA-256 {of.digest()}"
-    detail = element("eventDetailInformation", text("eventDetail", what))
+    sentence = f"sent by disposal run {of.run}; its certificate has the SHA-256 {of.digest()}"
+    detail = element("eventDetailInformation", text("eventDetail", sentence))
     outcome = element("eventOutcomeInformation", text("eventOutcome", "sent"))
     agents = [link("Agent", name) for name in (person, PROGRAM)]
     return element("event", identifier("event", event), text("eventType", "transfer"),
@@ -43,7 +43,7 @@ def run_event(files: list[File], of: Certificate, event: str, person: str) -> st
 
 
 def link(kind: str, value: str) -> str:
-    """A reference from an event to an object or an agent."""
+    """Returns a reference from an event to an object or an agent."""
     return element(f"linking{kind}Identifier", text(f"linking{kind}IdentifierType", "local"),
                    text(f"linking{kind}IdentifierValue", value))
 

@@ -37,7 +37,7 @@ class Index:
         self.ends = {end: keys[0] for end, keys in ends.items() if len(keys) == 1}
 
     def find(self, line: Line) -> Key | None:
-        """The part that the line is of; None if it names nothing of the bag."""
+        """Returns the part that the line is of; None if it names nothing of the bag."""
         by_path = next((self.ends[end] for end in ends_of(line.path) if end in self.ends), None)
         if by_path is not None:
             return by_path
@@ -50,9 +50,9 @@ class Index:
 
 
 def ends_of(path: str) -> list[str]:
-    """The path, and what is left of it without its first folder, its first two, and so on."""
-    words = path.split("/") if path else []
-    return ["/".join(words[at:]) for at in range(len(words))]
+    """Returns the path, and what is left of it without its first folder, its first two, and so on."""
+    steps = path.split("/") if path else []
+    return ["/".join(steps[at:]) for at in range(len(steps))]
 
 
 def refuse_own(sent: list[Sent], read: Read) -> None:
@@ -75,49 +75,49 @@ def refuse_plain(sent: list[Sent], read: Read) -> None:
 
 def judge(sent: list[Sent], read: Read) -> Judged:
     """Compares a list with what was sent."""
-    found, index = Judged(), Index(sent)
-    found.others += read.wrong
-    said: dict[Key, list[Line]] = {}
+    judged, index = Judged(), Index(sent)
+    judged.others += read.wrong
+    lines_of: dict[Key, list[Line]] = {}
     elsewhere: list[Line] = []
     for line in read.lines:
         key = index.find(line)
         if key is None:
             elsewhere.append(line)
         else:
-            said.setdefault(key, []).append(line)
+            lines_of.setdefault(key, []).append(line)
     renamed = Counter(it.digest for it in elsewhere)
     for at, record in enumerate(sent):
-        verdicts = [part_is_there(record, part, said.get((at, place), []), renamed, found)
+        verdicts = [part_is_there(record, part, lines_of.get((at, place), []), renamed, judged)
                     for place, part in enumerate(record.parts)]
         if all(verdicts):
-            found.confirmed.append(record)
+            judged.confirmed.append(record)
     for line in elsewhere:
         if renamed[line.digest] > 0:
             renamed[line.digest] -= 1
-            found.others.append(f"line {line.at}, {line.name()}: nothing of the bag")
-    return found
+            judged.others.append(f"line {line.at}, {line.name()}: nothing of the bag")
+    return judged
 
 
-def part_is_there(record: Sent, part: Part, lines: list[Line], renamed: Counter[str], found: Judged) -> bool:
-    """Whether the archive has a part: by its lines, or by a line with its digest under a name of the archive's own."""
+def part_is_there(record: Sent, part: Part, lines: list[Line], renamed: Counter[str], judged: Judged) -> bool:
+    """Returns whether the archive has a part: by its lines, or by a line with its digest under another name."""
     name = f"record {record.number}, {record.ref}{f': {part.path}' if part.path else ''}"
     digests = {it.digest for it in lines}
     if len(lines) > 1:
-        found.twice.append(f"{name}: lines {', '.join(str(it.at) for it in lines)}")
+        judged.twice.append(f"{name}: lines {', '.join(str(it.at) for it in lines)}")
     if digests == {part.answer}:
         return True
     if digests:
         other = ", ".join(sorted(digests - {part.answer}))
-        found.differing.append(f"{name}: the archive has {other}, and {part.answer} was expected")
+        judged.differing.append(f"{name}: the archive has {other}, and {part.answer} was expected")
         return False
     if renamed[part.answer] > 0:
         renamed[part.answer] -= 1
         return True
-    found.missing.append(f"{name}: {part.answer or 'the folder lacks the file'}")
+    judged.missing.append(f"{name}: {part.answer or 'the folder lacks the file'}")
     return False
 
 
 def acts(records: list[Sent], day: str, by: str) -> list[dict[str, object]]:
-    """The receipt of each record, as an act of docs/ACTS.md."""
+    """Returns the receipt of each record, as an act of docs/ACTS.md."""
     return [{"act": "receipt", "by": by, "day": day, "digest": it.parts[0].digest, "record": it.number}
             for it in records]

@@ -44,15 +44,15 @@ def sent(office: Office, of: Certificate) -> Iterator[tuple[Record, bytes]]:
 
 
 def record_of(office: Office, entry: Entry, is_gone: bool) -> Record:
-    told = office.json(f"records/{entry.record}")
+    answer = office.json(f"records/{entry.record}")
     try:
-        if told["ref"] != entry.ref or told["digest"] != entry.digest:
+        if answer["ref"] != entry.ref or answer["digest"] != entry.digest:
             raise Refused(WRONG, f"record {entry.record} of the office is not that of the certificate: was a backup "
                                  "restored?")
-        ended = told["ended"]
+        ended = answer["ended"]
         if is_gone and ended is None:
             raise Refused(IMPOSSIBLE, f"record {entry.record} is not ended, and the office gives no content of it")
         gone = f"{ended['outcome']} by run {ended['run']}" if is_gone else ""
-        return Record(entry, told["title"], told["originated"], told["added"], int(told["aggregation"]), gone)
+        return Record(entry, answer["title"], answer["originated"], answer["added"], int(answer["aggregation"]), gone)
     except (KeyError, TypeError, ValueError) as why:
         raise Refused(IMPOSSIBLE, f"what the office answers of record {entry.record} has another form: {why!r}") from why
