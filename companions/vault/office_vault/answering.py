@@ -70,26 +70,26 @@ class Handler(BaseHTTPRequestHandler):
         self.answer(self.put)
 
     def do_GET(self) -> None:
-        self.answer(self.give)
+        self.answer(self.get)
 
     do_HEAD = do_GET
 
-    def answer(self, what: Callable[[], None]) -> None:
+    def answer(self, work: Callable[[], None]) -> None:
         """Answers, whatever comes of it. A client that is refused early is drained for a moment."""
         # a client that went away, or is too slow, is let go
         with contextlib.suppress(TimeoutError, ConnectionError):
             try:
-                self.within(what)
-            except Answered as it:
-                self.say(it.status, {"error": it.word})
+                self.limited(work)
+            except Answered as error:
+                self.respond(error.status, {"error": error.word})
                 self.drain()
 
-    def within(self, what: Callable[[], None]) -> None:
+    def limited(self, work: Callable[[], None]) -> None:
         """Does one of the requests that are served at once, or refuses it."""
         if not self.free[self.command].acquire(blocking=False):
             raise Answered(503, "busy")
         try:
-            what()
+            work()
         except (TimeoutError, ConnectionError):
             raise
         except OSError as error:
@@ -98,7 +98,7 @@ class Handler(BaseHTTPRequestHandler):
         finally:
             self.free[self.command].release()
 
-    def say(self, status: int, body: object, **lines: str) -> None:
+    def respond(self, status: int, body: object, **lines: str) -> None:
         data = b"" if body is None else json.dumps(body, separators=(",", ":"), sort_keys=True).encode()
         self.send_response(status)
         given = {"Content-Type": "application/json", "Content-Length": str(len(data)), "Connection": "close"}
@@ -120,16 +120,16 @@ class Handler(BaseHTTPRequestHandler):
     # ---- in
 
     def put(self) -> None:
-        found = PUT.fullmatch(self.path)
-        if not found:
+        match = PUT.fullmatch(self.path)
+        if not match:
             raise Answered(404, "path")
         length = self.length()
-        is_new = self.receive(found[1], length)
+        is_new = self.receive(match[1], length)
         if place := self.headers.get("Office-Stored"):
             # whether somebody had put these bytes in before is not for this client
-            self.say(200, None, X_Accel_Redirect=f"{place}?length={length}")
+            self.respond(200, None, X_Accel_Redirect=f"{place}?length={length}")
         else:
-            self.say(201 if is_new else 200, {"length": length, "sha256": found[1]})
+            self.respond(201 if is_new else 200, {"length": length, "sha256": match[1]})
 
     def receive(self, digest: str, length: int) -> bool:
         """Takes the bytes in, as one of the uploads of the name that nginx reports; returns whether they are new."""
@@ -161,32 +161,33 @@ class Handler(BaseHTTPRequestHandler):
 
     # ---- out
 
-    def give(self) -> None:
+    def get(self) -> None:
         if self.path == LIMITS:
-            self.say(200, {"most": self.settings.most, "room": self.settings.vault.room(self.settings.reserve)})
+            self.respond(200, {"most": self.settings.most, "room": self.settings.vault.room(self.settings.reserve)})
             return
-        found = FILES.fullmatch(self.path)
-        if not found:
+        match = FILES.fullmatch(self.path)
+        if not match:
             raise Answered(404, "path")
-        files = manifest.read(self.content(found[1])) or []
-        if found[2] is None:
-            self.say(200, [self.described(at, it) for at, it in enumerate(files, 1)])
+        files = manifest.read(self.content(match[1])) or []
+        if match[2] is None:
+            self.respond(200, [self.described(at, file) for at, file in enumerate(files, 1)])
             return
-        if len(files) < int(found[2]):
+        if len(files) < int(match[2]):
             raise Answered(404, "file")
-        it = files[int(found[2]) - 1]
-        if not self.is_there(it):
+        file = files[int(match[2]) - 1]
+        if not self.is_there(file):
             raise Answered(503, "object")
-        name = urllib.parse.quote(re.split(r"[/\\]", it.place)[-1] or "file", safe="")
-        self.say(200, None, Content_Type="application/octet-stream",
-                 Content_Disposition=f"attachment; filename*=UTF-8''{name}",
-                 X_Accel_Redirect=f"{self.settings.internal}/{it.digest[:2]}/{it.digest}")
+        name = urllib.parse.quote(re.split(r"[/\\]", file.place)[-1] or "file", safe="")
+        self.respond(200, None, Content_Type="application/octet-stream",
+                     Content_Disposition=f"attachment; filename*=UTF-8''{name}",
+                     X_Accel_Redirect=f"{self.settings.internal}/{file.digest[:2]}/{file.digest}")
 
-    def described(self, number: int, it: manifest.Named) -> dict[str, object]:
-        return {"file": number, "length": it.length, "place": it.place, "sha256": it.digest, "there": self.is_there(it)}
+    def described(self, number: int, file: manifest.Named) -> dict[str, object]:
+        return {"file": number, "length": file.length, "place": file.place, "sha256": file.digest,
+                "there": self.is_there(file)}
 
-    def is_there(self, it: manifest.Named) -> bool:
-        return stamp_at(self.settings.vault.path(it.digest)) is not None
+    def is_there(self, file: manifest.Named) -> bool:
+        return stamp_at(self.settings.vault.path(file.digest)) is not None
 
     def content(self, number: str) -> bytes:
         """Returns the content of a record, if the office gives it to whoever asks; else the office's own answer."""
@@ -209,10 +210,10 @@ class Handler(BaseHTTPRequestHandler):
         """Answers what is not read as a request, or has a method that no path takes."""
         is_method = code == 501
         self.close_connection = True
-        self.say(405 if is_method else code, {"error": "method" if is_method else "head"})
+        self.respond(405 if is_method else code, {"error": "method" if is_method else "head"})
 
     def address_string(self) -> str:
         return "nginx"
 
-    def log_message(self, form: str, *words: object) -> None:
+    def log_message(self, form: str, *values: object) -> None:
         """nginx keeps the journal."""

@@ -5,7 +5,7 @@ from office_common.client import Client
 from office_common.errors import IMPOSSIBLE, USAGE, NoAnswer, Refused
 from office_common.facts import LONGEST_CONTENT
 
-from office_vault.offices import Said
+from office_vault.offices import Metadata
 
 SECONDS = 300
 MOST_SAID = 1 << 20
@@ -32,16 +32,17 @@ class Served:
             raise Refused(IMPOSSIBLE, f"the office at {self.address} answers {reply.status} to {path}")
         return reply.body if reply.status == 200 else None
 
-    def said(self, number: int) -> Said | None:
+    def metadata(self, number: int) -> Metadata | None:
         body = self.get(f"/records/{number}", MOST_SAID)
         if body is None:
             return None
         try:
-            it = json.loads(body)
-            end = it["ended"] or {"run": None, "outcome": None}
-            if (it["status"] == "ended") != (end["run"] is not None):
+            record = json.loads(body)
+            end = record["ended"] or {"run": None, "outcome": None}
+            if (record["status"] == "ended") != (end["run"] is not None):
                 raise ValueError("status and end of the record differ")
-            return Said(it["ref"], it["digest"], it["length"], end["run"], end["outcome"], it["class"])
+            return Metadata(record["ref"], record["digest"], record["length"], end["run"], end["outcome"],
+                            record["class"])
         except (ValueError, KeyError, TypeError) as error:
             raise Refused(IMPOSSIBLE, f"{self.address} is no office: record {number} is {body[:200]!r}") from error
 

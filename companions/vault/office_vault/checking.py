@@ -9,15 +9,15 @@ from office_vault.offices import Office
 
 def of_manifests(vault: Vault, office: Office, named: dict[str, set[str]]) -> Iterator[str]:
     """Compares each manifest with the objects, and notes which digests are named, and in which classes."""
-    for number, record, found in offices.readings(office):
-        if not found.is_sound:
+    for number, record, reading in offices.readings(office):
+        if not reading.is_sound:
             yield f"record {number} begins as a manifest and is none; what it contains is kept"
-        for digest, length in found.names:
+        for digest, length in reading.names:
             named[digest].add(record.code)
             path = vault.path(digest)
             if stamp_at(path) is None:
                 # a record that ended meanwhile names nothing
-                if (said := office.said(number)) is not None and said.is_here:
+                if (metadata := office.metadata(number)) is not None and metadata.is_here:
                     yield f"record {number} names {digest}, which is missing"
             elif length is not None and (size := path.stat().st_size) != length:
                 yield f"record {number} names {digest} with {length} bytes, and the object has {size}"
@@ -29,8 +29,8 @@ def of_objects(vault: Vault) -> Iterator[str]:
         path = vault.path(digest)
         if digest_of(path) != digest and stamp_at(path) is not None:
             yield f"object {digest} is damaged"
-    for it in vault.strangers():
-        yield f"objects/{it} is no object"
+    for name in vault.strangers():
+        yield f"objects/{name} is no object"
 
 
 def check(vault: Vault, place: str, is_quick: bool, lines: dict[str, str]) -> Iterator[str]:
@@ -38,12 +38,12 @@ def check(vault: Vault, place: str, is_quick: bool, lines: dict[str, str]) -> It
     named: dict[str, set[str]] = defaultdict(set)
     wrong = 0
     with opening.opened(place, vault.work, lines) as office:
-        for it in of_manifests(vault, office, named):
+        for line in of_manifests(vault, office, named):
             wrong += 1
-            yield it
-    for it in () if is_quick else of_objects(vault):
+            yield line
+    for line in () if is_quick else of_objects(vault):
         wrong += 1
-        yield it
+        yield line
     for digest, codes in sorted(named.items()):
         if len(codes) > 1:
             yield f"object {digest} is named in the classes {' '.join(sorted(codes))}"

@@ -19,60 +19,61 @@ from office_vault.uploads import Uploads
 GIGABYTE = 1 << 30
 
 
-def make(it: argparse.Namespace) -> int:
+def make(options: argparse.Namespace) -> int:
     """create the folders of a vault"""
-    Vault.make(it.vault)
+    Vault.make(options.vault)
     return 0
 
 
-def put(it: argparse.Namespace) -> int:
+def put(options: argparse.Namespace) -> int:
     """put files in, and print the manifest that names them"""
-    vault, named = Vault(it.vault), []
-    for path in it.files:
+    vault, named = Vault(options.vault), []
+    for path in options.files:
         with path.open("rb") as file:
             digest, length = hashlib.file_digest(file, "sha256").hexdigest(), file.tell()
             file.seek(0)
-            vault.receive(digest, length, file.read, it.reserve)
+            vault.receive(digest, length, file.read, options.reserve)
         named.append(manifest.Named(digest, length, path.name))
     print(manifest.text_of(named), end="")
     return 0
 
 
-def serve(it: argparse.Namespace) -> int:
+def serve(options: argparse.Namespace) -> int:
     """serve a vault behind nginx, at a socket of the file system"""
-    uploads = Uploads(it.at_once, it.unnamed)
-    service.serve(Settings(Vault(it.vault), it.office, it.most, it.reserve, it.internal, uploads), it.socket)
+    uploads = Uploads(options.at_once, options.unnamed)
+    settings = Settings(Vault(options.vault), options.office, options.most, options.reserve, options.internal, uploads)
+    service.serve(settings, options.socket)
     return 0
 
 
-def sweep(it: argparse.Namespace) -> int:
+def sweep(options: argparse.Namespace) -> int:
     """remove what no record names, and print the report"""
-    rules = sweeping.Rules(it.grace, it.restored, it.many, lines_of(it.line))
-    vault = Vault(it.vault)
-    report = sweeping.sweep_copies(vault, Path(it.office), rules) if it.copies \
-        else sweeping.sweep(vault, it.office, rules)
+    rules = sweeping.Rules(options.grace, options.restored, options.many, lines_of(options.line))
+    vault = Vault(options.vault)
+    report = sweeping.sweep_copies(vault, Path(options.office), rules) if options.copies \
+        else sweeping.sweep(vault, options.office, rules)
     print(report.read_text(), end="")
     return 0
 
 
-def check(it: argparse.Namespace) -> int:
+def check(options: argparse.Namespace) -> int:
     """compare each object with its digest, and each manifest with the objects"""
     last = ""
-    for last in checking.check(Vault(it.vault), it.office, it.quick, lines_of(it.line)):
+    for last in checking.check(Vault(options.vault), options.office, options.quick, lines_of(options.line)):
         print(last, flush=True)
     return 0 if last.endswith("wrong 0") else 1
 
 
-def mirror(it: argparse.Namespace) -> int:
+def mirror(options: argparse.Namespace) -> int:
     """copy to the vault TARGET what it lacks, each digest compared"""
     last = ""
-    for last in mirroring.mirror(Vault(it.vault), Vault(it.target), it.reserve):
+    for last in mirroring.mirror(Vault(options.vault), Vault(options.target), options.reserve):
         print(last, flush=True)
     return 0 if last.endswith("damaged 0") else 1
 
 
-def lines_of(words: list[str]) -> dict[str, str]:
-    return dict(one.split(": ", 1) for one in words)
+def lines_of(lines: list[str]) -> dict[str, str]:
+    return dict(line.split(": ", 1) for line in lines)
 
 
 def line(text: str) -> str:
@@ -83,48 +84,48 @@ def line(text: str) -> str:
     return text
 
 
-def words() -> argparse.ArgumentParser:
+def command_parser() -> argparse.ArgumentParser:
     parser, number = command.parser("office-vault"), command.number(0)
     kinds = parser.add_subparsers(required=True, metavar="COMMAND")
 
-    def kind(what: Callable[[argparse.Namespace], int], *places: str) -> argparse.ArgumentParser:
-        one = kinds.add_parser(what.__name__, help=what.__doc__, allow_abbrev=False)
-        one.set_defaults(what=what)
-        for it in places:
-            one.add_argument(it, type=Path)
-        return one
+    def kind(work: Callable[[argparse.Namespace], int], *places: str) -> argparse.ArgumentParser:
+        sub = kinds.add_parser(work.__name__, help=work.__doc__, allow_abbrev=False)
+        sub.set_defaults(work=work)
+        for place in places:
+            sub.add_argument(place, type=Path)
+        return sub
 
     kind(make, "vault")
-    one = kind(put, "vault")
-    one.add_argument("files", type=Path, nargs="+")
-    room(one)
-    one = kind(serve, "vault", "socket")
-    one.add_argument("--office", required=True, metavar="SOCKET|HOST:PORT")
-    one.add_argument("--most", type=number, default=100 * GIGABYTE, help="bytes of the largest object")
-    one.add_argument("--internal", default="/office-vault-objects", help="where nginx has the objects")
-    one.add_argument("--at-once", type=number, default=4, help="uploads of a name at once")
-    one.add_argument("--unnamed", type=number, default=20 * GIGABYTE, help="bytes of a name that no record names")
-    room(one)
-    one = kind(sweep, "vault")
-    asked(one)
-    one.add_argument("--grace", type=number, default=int(sweeping.GRACE), help="seconds")
-    one.add_argument("--restored", action="store_true", help="the office was restored from a backup")
-    one.add_argument("--many", action="store_true", help="more may go than stay")
-    one.add_argument("--copies", action="store_true", help="OFFICE is a folder of copies: what no copy names goes")
-    one = kind(check, "vault")
-    asked(one)
-    one.add_argument("--quick", action="store_true", help="look at lengths alone")
+    sub = kind(put, "vault")
+    sub.add_argument("files", type=Path, nargs="+")
+    room(sub)
+    sub = kind(serve, "vault", "socket")
+    sub.add_argument("--office", required=True, metavar="SOCKET|HOST:PORT")
+    sub.add_argument("--most", type=number, default=100 * GIGABYTE, help="bytes of the largest object")
+    sub.add_argument("--internal", default="/office-vault-objects", help="where nginx has the objects")
+    sub.add_argument("--at-once", type=number, default=4, help="uploads of a name at once")
+    sub.add_argument("--unnamed", type=number, default=20 * GIGABYTE, help="bytes of a name that no record names")
+    room(sub)
+    sub = kind(sweep, "vault")
+    add_office(sub)
+    sub.add_argument("--grace", type=number, default=int(sweeping.GRACE), help="seconds")
+    sub.add_argument("--restored", action="store_true", help="the office was restored from a backup")
+    sub.add_argument("--many", action="store_true", help="more may go than stay")
+    sub.add_argument("--copies", action="store_true", help="OFFICE is a folder of copies: what no copy names goes")
+    sub = kind(check, "vault")
+    add_office(sub)
+    sub.add_argument("--quick", action="store_true", help="look at lengths alone")
     room(kind(mirror, "vault", "target"))
     return parser
 
 
-def asked(one: argparse.ArgumentParser) -> None:
-    one.add_argument("office", help="SOCKET, http://127.0.0.1:PORT, FILE, or a folder of copies")
-    one.add_argument("--line", type=line, action="append", default=[], help="a field line of each request")
+def add_office(parser: argparse.ArgumentParser) -> None:
+    parser.add_argument("office", help="SOCKET, http://127.0.0.1:PORT, FILE, or a folder of copies")
+    parser.add_argument("--line", type=line, action="append", default=[], help="a field line of each request")
 
 
-def room(one: argparse.ArgumentParser) -> None:
-    one.add_argument("--reserve", type=command.number(0), default=GIGABYTE, help="bytes of the disk that stay free")
+def room(parser: argparse.ArgumentParser) -> None:
+    parser.add_argument("--reserve", type=command.number(0), default=GIGABYTE, help="bytes of the disk that stay free")
 
 
 def become_reader(source: Path, target: Path, arguments: list[str]) -> None:
@@ -135,28 +136,28 @@ def become_reader(source: Path, target: Path, arguments: list[str]) -> None:
     owners = [it.stat().st_uid if it.is_dir() else 0 for it in (source, target)]
     if os.geteuid() != 0 or 0 in owners or owners[0] == owners[1]:
         return
-    found = pwd.getpwuid(owners[1])
-    os.execvp("setpriv", ["setpriv", f"--reuid={found.pw_uid}", f"--regid={found.pw_gid}", "--init-groups",
+    user = pwd.getpwuid(owners[1])
+    os.execvp("setpriv", ["setpriv", f"--reuid={user.pw_uid}", f"--regid={user.pw_gid}", "--init-groups",
                           "--inh-caps=-all,+dac_read_search", "--ambient-caps=-all,+dac_read_search",
                           "--bounding-set=-all,+dac_read_search", "--no-new-privs", sys.executable, "-I", sys.argv[0],
                           *arguments])
 
 
-def work(it: argparse.Namespace, arguments: list[str]) -> int:
+def work(options: argparse.Namespace, arguments: list[str]) -> int:
     """Does what a command asks for, as the owner of the vault."""
-    if it.what is mirror:
-        become_reader(it.vault, it.target, arguments)
-    if it.vault.is_dir():
+    if options.work is mirror:
+        become_reader(options.vault, options.target, arguments)
+    if options.vault.is_dir():
         # before anything in its folder is touched
-        rights.become_owner(it.vault.stat())
+        rights.become_owner(options.vault.stat())
     try:
-        status: int = it.what(it)
+        status: int = options.work(options)
     except NoRoom as error:
         raise Refused(IMPOSSIBLE, "the disk has no room for this object, and the bytes that stay free") from error
     return status
 
 
 def main(arguments: list[str]) -> int:
-    it = words().parse_args(arguments)
+    options = command_parser().parse_args(arguments)
     os.umask(0o027)
-    return command.run("office-vault", lambda: work(it, arguments), (OSError, sqlite3.Error, ValueError, KeyError))
+    return command.run("office-vault", lambda: work(options, arguments), (OSError, sqlite3.Error, ValueError, KeyError))

@@ -10,7 +10,7 @@ from pathlib import Path
 from office_common.errors import IMPOSSIBLE, Refused
 from office_common.files import locked, tables_of
 
-from office_vault.offices import Said
+from office_vault.offices import Metadata
 
 VERSION = 2
 ENDS = """
@@ -65,9 +65,9 @@ class Copied:
     def close(self) -> None:
         self.tables.close()
 
-    def said(self, number: int) -> Said | None:
+    def metadata(self, number: int) -> Metadata | None:
         row = self.tables.execute(SAID, [number]).fetchone()
-        return None if row is None else Said(*row)
+        return None if row is None else Metadata(*row)
 
     def content(self, number: int) -> bytes | None:
         row = self.tables.execute(CONTENT, [number]).fetchone()

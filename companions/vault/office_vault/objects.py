@@ -80,8 +80,8 @@ class Vault:
 
     def room(self, reserve: int) -> int:
         """Returns how many bytes an object may have now, so that the reserve stays free."""
-        found = os.statvfs(self.objects)
-        return max(found.f_bavail * found.f_frsize - reserve, 0)
+        disk = os.statvfs(self.objects)
+        return max(disk.f_bavail * disk.f_frsize - reserve, 0)
 
     def receive(self, digest: str, length: int, read: Callable[[int], bytes], reserve: int = 0) -> bool:
         """Takes the bytes of an object in and returns whether it is new. It is on the disk then, with a new stamp.
@@ -139,9 +139,9 @@ class Vault:
     def stamps(self) -> Iterator[tuple[str, Stamp]]:
         """Lists all objects, each with its stamp."""
         for name in FOLDERS:
-            for it in os.scandir(self.objects / name):
-                if DIGEST.fullmatch(it.name) and it.name[:2] == name and (stamp := stamp_at(Path(it.path))):
-                    yield it.name, stamp
+            for entry in os.scandir(self.objects / name):
+                if DIGEST.fullmatch(entry.name) and entry.name[:2] == name and (stamp := stamp_at(Path(entry.path))):
+                    yield entry.name, stamp
 
     def strangers(self) -> list[str]:
         """Lists what is in the folders and is no object."""
@@ -165,20 +165,20 @@ class Vault:
     def clear(self) -> None:
         """Removes what a kill left: half-named objects, and copies that no process works with."""
         with self.lock():
-            for it in self.objects.glob("*/.new"):
-                it.unlink()
-        for it in self.work.iterdir():
-            with contextlib.suppress(Refused), locked(it):
-                shutil.rmtree(it, ignore_errors=True)
+            for path in self.objects.glob("*/.new"):
+                path.unlink()
+        for path in self.work.iterdir():
+            with contextlib.suppress(Refused), locked(path):
+                shutil.rmtree(path, ignore_errors=True)
 
 
 def stamp_at(path: Path) -> Stamp | None:
     """Returns the stamp of a file, or None if there is none; a link or a folder is no object."""
     try:
-        found = path.lstat()
+        state = path.lstat()
     except FileNotFoundError:
         return None
-    return Stamp(found.st_ino, found.st_mtime_ns) if stat.S_ISREG(found.st_mode) else None
+    return Stamp(state.st_ino, state.st_mtime_ns) if stat.S_ISREG(state.st_mode) else None
 
 
 def digest_of(path: Path) -> str | None:
@@ -192,12 +192,12 @@ def digest_of(path: Path) -> str | None:
 
 def fill(fd: int, digest: str, length: int, read: Callable[[int], bytes]) -> None:
     """Writes so many bytes, which must have this digest, and waits until they are on the disk."""
-    found, left, unsynced = hashlib.sha256(), length, 0
+    sha256, left, unsynced = hashlib.sha256(), length, 0
     while left:
         part = read(min(PART, left))
         if not part:
             raise WrongBytes("body")
-        found.update(part)
+        sha256.update(part)
         left -= len(part)
         rest = memoryview(part)
         while rest:
@@ -206,7 +206,7 @@ def fill(fd: int, digest: str, length: int, read: Callable[[int], bytes]) -> Non
         if unsynced >= SYNCED:
             os.fdatasync(fd)
             unsynced = 0
-    if found.hexdigest() != digest:
+    if sha256.hexdigest() != digest:
         raise WrongBytes("digest")
     os.utime(fd, ns=(time.time_ns(), time.time_ns()))
     os.fsync(fd)

@@ -14,7 +14,7 @@ from office_common.errors import IMPOSSIBLE, Refused
 
 
 @dataclass(frozen=True)
-class Said:
+class Metadata:
     """What an office says of a record: of its content while it is there, or how it ended."""
 
     ref: str
@@ -27,39 +27,39 @@ class Said:
 
     @property
     def is_here(self) -> bool:
-        """Whether the record still has its content."""
+        """Returns whether the record still has its content."""
         return self.run is None
 
 
 class Office(Protocol):
     """An office that can be asked."""
 
-    def said(self, number: int) -> Said | None:
+    def metadata(self, number: int) -> Metadata | None:
         """Returns what is said of a record, or None if there is none."""
 
     def content(self, number: int) -> bytes | None:
         """Returns the content of a record, or None if there is none."""
 
 
-def reading(office: Office, number: int, said: Said) -> manifest.Reading | None:
+def reading(office: Office, number: int, metadata: Metadata) -> manifest.Reading | None:
     """Reads what a record keeps in the vault; None if its content is gone. A content that is not its record's stops."""
-    if not said.is_here:
+    if not metadata.is_here:
         return None
-    if said.length < manifest.LEAST_BYTES:
+    if metadata.length < manifest.LEAST_BYTES:
         return manifest.Reading((), True)
     content = office.content(number)
     if content is None:
         return None
-    if len(content) != said.length or hashlib.sha256(content).hexdigest() != said.digest:
+    if len(content) != metadata.length or hashlib.sha256(content).hexdigest() != metadata.digest:
         raise Refused(IMPOSSIBLE, f"the content of record {number} is damaged: restore FILE from a backup")
     return manifest.keeps(content)
 
 
-def readings(office: Office) -> Iterator[tuple[int, Said, manifest.Reading]]:
+def readings(office: Office) -> Iterator[tuple[int, Metadata, manifest.Reading]]:
     """Lists what the records that have their content keep in the vault: those that keep something, or have a slip."""
     number = 1
-    while (said := office.said(number)) is not None:
-        found = reading(office, number, said)
-        if found is not None and (found.names or not found.is_sound):
-            yield number, said, found
+    while (metadata := office.metadata(number)) is not None:
+        kept = reading(office, number, metadata)
+        if kept is not None and (kept.names or not kept.is_sound):
+            yield number, metadata, kept
         number += 1

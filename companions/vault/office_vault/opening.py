@@ -19,10 +19,10 @@ def opened(place: str, work: Path, lines: dict[str, str]) -> Iterator[Office]:
         return
     path = Path(place)
     if path.is_dir():
-        found = copies_in(path)
-        if not found:
+        copies = copies_in(path)
+        if not copies:
             raise Refused(IMPOSSIBLE, f"there is no copy in {path}")
-        with contextlib.closing(Copied(found[-1])) as office:
+        with contextlib.closing(Copied(copies[-1])) as office:
             yield office
         return
     with copy_of(path, work) as copy, contextlib.closing(Copied(copy)) as office:

@@ -10,7 +10,7 @@ from pathlib import Path
 from office_common.manifest import Reading
 
 from office_vault.objects import Stamp
-from office_vault.offices import Said
+from office_vault.offices import Metadata
 
 TABLES = """
 CREATE TABLE IF NOT EXISTS sweeps(number INTEGER PRIMARY KEY, began REAL NOT NULL, named INTEGER NOT NULL,
@@ -66,8 +66,8 @@ class State:
     def close(self) -> None:
         self.tables.close()
 
-    def rows(self, words: str, *values: object) -> list[tuple]:
-        return self.tables.execute(words, values).fetchall()
+    def rows(self, query: str, *values: object) -> list[tuple]:
+        return self.tables.execute(query, values).fetchall()
 
     # ---- sweeps
 
@@ -84,8 +84,8 @@ class State:
 
     def forget(self) -> None:
         """Forgets the office, and what was seen unnamed; what went stays on record."""
-        for it in ("known", "naming", "names", "seen"):
-            self.tables.execute(f"DELETE FROM {it}")
+        for table in ("known", "naming", "names", "seen"):
+            self.tables.execute(f"DELETE FROM {table}")
 
     def last_record(self) -> int:
         """Returns the number of the last record that was read."""
@@ -93,29 +93,30 @@ class State:
 
     def last_ones(self) -> list[tuple[int, str, bool]]:
         """Returns the last record that was read, and the one that ended last: an office that went back lost these."""
-        words = "SELECT record, digest, run IS NOT NULL FROM known LEFT JOIN naming USING (record) ORDER BY "
-        found = self.rows(words + "record DESC LIMIT 1") + self.rows(words + "run DESC NULLS LAST, record DESC LIMIT 1")
-        return [(number, digest.hex(), bool(ended)) for number, digest, ended in found]
+        query = "SELECT record, digest, run IS NOT NULL FROM known LEFT JOIN naming USING (record) ORDER BY "
+        rows = self.rows(query + "record DESC LIMIT 1") + self.rows(query + "run DESC NULLS LAST, record DESC LIMIT 1")
+        return [(number, digest.hex(), bool(ended)) for number, digest, ended in rows]
 
     def known(self) -> Iterator[tuple[int, str, bool]]:
         """Lists the records that were read, each with its digest and whether it is known to have ended."""
-        words = "SELECT record, digest, run IS NOT NULL FROM known LEFT JOIN naming USING (record) ORDER BY record"
-        return ((number, digest.hex(), bool(ended)) for number, digest, ended in self.tables.execute(words))
+        query = "SELECT record, digest, run IS NOT NULL FROM known LEFT JOIN naming USING (record) ORDER BY record"
+        return ((number, digest.hex(), bool(ended)) for number, digest, ended in self.tables.execute(query))
 
-    def learn(self, number: int, said: Said, reading: Reading | None) -> None:
+    def learn(self, number: int, metadata: Metadata, reading: Reading | None) -> None:
         """Notes a record that was read, and what it names."""
-        self.tables.execute("INSERT INTO known VALUES (?, ?)", [number, bytes.fromhex(said.digest)])
+        self.tables.execute("INSERT INTO known VALUES (?, ?)", [number, bytes.fromhex(metadata.digest)])
         if reading and reading.names:
-            self.tables.execute("INSERT INTO naming VALUES (?, ?, NULL, NULL, ?)", [number, said.ref, said.code])
+            self.tables.execute("INSERT INTO naming VALUES (?, ?, NULL, NULL, ?)",
+                                [number, metadata.ref, metadata.code])
             self.tables.executemany("INSERT INTO names VALUES (?, ?, ?)",
                                     [(bytes.fromhex(digest), number, length) for digest, length in reading.names])
 
     def naming(self) -> list[tuple[int, str]]:
         """Lists the records that name something and were not known to have ended, each with its digest."""
-        words = "SELECT record, digest FROM naming JOIN known USING (record) WHERE run IS NULL ORDER BY record"
-        return [(number, digest.hex()) for number, digest in self.rows(words)]
+        query = "SELECT record, digest FROM naming JOIN known USING (record) WHERE run IS NULL ORDER BY record"
+        return [(number, digest.hex()) for number, digest in self.rows(query)]
 
-    def ended(self, ends: dict[int, Said]) -> None:
+    def ended(self, ends: dict[int, Metadata]) -> None:
         """Notes how records ended, and what they named that another record keeps."""
         self.tables.executemany("UPDATE naming SET run = ?, outcome = ? WHERE record = ?",
                                 [(it.run, it.outcome, number) for number, it in ends.items()])
@@ -147,8 +148,8 @@ class State:
 
     def due(self, began: float, grace: float) -> list[tuple[str, Stamp]]:
         """Lists the objects that were seen unnamed, with the same stamp, a grace ago."""
-        found = self.rows(DUE, began - grace, began)
-        return [(digest.hex(), Stamp(inode, put)) for digest, inode, put in found]
+        rows = self.rows(DUE, began - grace, began)
+        return [(digest.hex(), Stamp(inode, put)) for digest, inode, put in rows]
 
     def counts(self) -> tuple[int, int]:
         """Counts the objects that are there, and those of them that are unnamed."""

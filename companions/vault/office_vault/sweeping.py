@@ -16,7 +16,7 @@ from office_common.files import copies_in, sync
 from office_vault import offices, opening, reports
 from office_vault.copies import Copied
 from office_vault.objects import Stamp, Vault
-from office_vault.offices import Office, Said
+from office_vault.offices import Metadata, Office
 from office_vault.state import State
 
 GRACE = 86_400.0
@@ -40,13 +40,14 @@ class Rules:
 def finish(vault: Vault, state: State) -> None:
     """Removes what was moved out of reach, by this sweep or by one that was killed, and reports it once."""
     number = state.last()[0]
-    names = sorted(it.name for it in vault.going.iterdir())
+    names = sorted(path.name for path in vault.going.iterdir())
     with state:
-        pending = {it.hex() for it, in state.rows("SELECT digest FROM gone WHERE at IS NULL")}
-        rows = [(number, bytes.fromhex(it), (vault.going / it).stat().st_size) for it in names if it not in pending]
+        pending = {digest.hex() for digest, in state.rows("SELECT digest FROM gone WHERE at IS NULL")}
+        rows = [(number, bytes.fromhex(name), (vault.going / name).stat().st_size)
+                for name in names if name not in pending]
         state.tables.executemany("INSERT INTO gone VALUES (?, ?, ?, NULL)", rows)
-    for it in names:
-        (vault.going / it).unlink()
+    for name in names:
+        (vault.going / name).unlink()
     sync(vault.going)
     with state:
         state.tables.execute("UPDATE gone SET at = ? WHERE at IS NULL", [now()])
@@ -64,28 +65,28 @@ def begin(vault: Vault, state: State) -> float:
     return began
 
 
-def compare(office: Office, number: int, digest: str, has_ended: bool) -> Said:
+def compare(office: Office, number: int, digest: str, has_ended: bool) -> Metadata:
     """Asks for a record that an earlier sweep read, and refuses another office: a wrong one, or one that went back."""
-    said = office.said(number)
-    if said is None or said.digest != digest:
+    metadata = office.metadata(number)
+    if metadata is None or metadata.digest != digest:
         raise Refused(UNSURE, f"record {number} is not the one that an earlier sweep read: is this another office? {OTHER}")
-    if has_ended and said.is_here:
+    if has_ended and metadata.is_here:
         raise Refused(UNSURE, f"record {number} had ended, and is here again. {OTHER}")
-    return said
+    return metadata
 
 
 def learn(state: State, office: Office) -> None:
     """Notes what records name that were filed since the last sweep, and which ended."""
-    for it in state.last_ones():
-        compare(office, *it)
-    old = {it: compare(office, it, digest, False) for it, digest in state.naming()}
+    for last in state.last_ones():
+        compare(office, *last)
+    old = {record: compare(office, record, digest, False) for record, digest in state.naming()}
     number = state.last_record() + 1
-    while (said := office.said(number)) is not None:
-        state.learn(number, said, offices.reading(office, number, said))
+    while (metadata := office.metadata(number)) is not None:
+        state.learn(number, metadata, offices.reading(office, number, metadata))
         number += 1
-    state.ended({it: said for it, said in old.items() if not said.is_here})
+    state.ended({record: metadata for record, metadata in old.items() if not metadata.is_here})
     state.name_all()
-    state.compare_classes({it: said.code for it, said in old.items()})
+    state.compare_classes({record: metadata.code for record, metadata in old.items()})
 
 
 def decide(state: State, began: float, rules: Rules) -> list[tuple[str, Stamp]]:
@@ -103,10 +104,10 @@ def decide(state: State, began: float, rules: Rules) -> list[tuple[str, Stamp]]:
 
 def move(vault: Vault, due: list[tuple[str, Stamp]]) -> None:
     """Moves out of reach what goes; that it is out is on the disk then."""
-    folders = {vault.path(it).parent for it, stamp in due if vault.take_out(it, stamp)}
+    folders = {vault.path(digest).parent for digest, stamp in due if vault.take_out(digest, stamp)}
     sync(vault.going)
-    for it in sorted(folders):
-        sync(it)
+    for folder in sorted(folders):
+        sync(folder)
 
 
 def end(vault: Vault, state: State, due: list[tuple[str, Stamp]]) -> Path:
@@ -126,8 +127,8 @@ def sweep(vault: Vault, place: str, rules: Rules = Rules()) -> Path:
             due = decide(state, began, rules)
             if due:
                 # what was read once counts only if each record is still the one that was read
-                for it in state.known():
-                    compare(office, *it)
+                for known in state.known():
+                    compare(office, *known)
         return end(vault, state, due)
 
 
@@ -141,7 +142,7 @@ def sweep_copies(vault: Vault, folder: Path, rules: Rules = Rules()) -> Path:
         with state:
             for copy in copies:
                 with contextlib.closing(Copied(copy)) as office:
-                    for _, _, found in offices.readings(office):
-                        state.name(digest for digest, _ in found.names)
+                    for _, _, reading in offices.readings(office):
+                        state.name(digest for digest, _ in reading.names)
             due = decide(state, began, rules)
         return end(vault, state, due)

@@ -15,7 +15,8 @@ from vault_trial.world import World, free_port
 
 from office_common import manifest
 
-ROWS = [("letter.txt", b"A letter."), ("scan.pdf", b"%PDF-" + b"x" * 300_000), ("sub/plan Ü.tif", b"y" * 2_000_000)]
+ROWS = [("letter.txt", b"A letter."), ("scan.pdf", b"%PDF-" + b"x" * 299_994 + b"\n%%EOF"),
+        ("sub/plan Ü.tif", b"y" * 2_000_000)]
 DAY = "2024-01-02"
 
 
