@@ -216,3 +216,18 @@ export function onSubmit(form, work, taken) {
     }
   });
 }
+
+/**
+ * Opens what the form of a view names by its number: by the address, or at once if the address is that one already.
+ * @param {string} name
+ * @param {function(string): any} open
+ */
+export function onNumber(name, open) {
+  const form = /** @type {HTMLFormElement} */ (byId(`${name}-form`));
+  onSubmit(form, (values) => {
+    const number = values[`${name}-number`];
+    const address = `#${name}?number=${number}`;
+    if (location.hash === address) return open(number);
+    location.hash = address;
+  });
+}

@@ -83,5 +83,7 @@ function nothingDone(answer, body) {
   if (answer.status === 503) return NOTHING_IN_LOG.includes(body?.error);
   if (answer.status === 422) return ["key", "refused"].includes(body?.error);
   if ([400, 404, 405, 411, 501].includes(answer.status)) return typeof body?.error === "string";
+  // an office that decides too stops a list at an act, and those before it are done
+  if (answer.status === 403 && body?.answers?.length > 0) return false;
   return [401, 403, 413, 421, 429].includes(answer.status);
 }

@@ -1,7 +1,7 @@
 // A certificate, of the office or of a file: whether its sum agrees, what it tells, and its text.
 import { get } from "../ask.js";
 import { isThere, part } from "../catalogue.js";
-import { onSubmit } from "../fields.js";
+import { onNumber, onSubmit } from "../fields.js";
 import { asking, byId, details, factsOf, failed, grouped, link, made, paragraph, quiet, save, say, tableOf, told } from "../page.js";
 import { judged, read, sameBytes, skippedAgain } from "../plain/certificates.js";
 import { isNumber } from "../plain/forms.js";
@@ -164,11 +164,7 @@ export function start() {
   titles = titleSwitch("certificate-titles", tellTitles);
   byId("certificate-switch").replaceWith(titles.node);
   onSubmit(byId("certificate-file-form"), check);
-  onSubmit(byId("certificate-form"), (values) => {
-    const address = `#certificate?number=${values["certificate-number"]}`;
-    if (location.hash === address) return open(values["certificate-number"]);
-    location.hash = address;
-  });
+  onNumber("certificate", open);
 }
 
 /** Shows the certificate that the address names. */

@@ -1,7 +1,7 @@
 // One record, by its number: what is reported of it in sentences and in facts, its content to save, and what can be recorded of it.
 import { get, getNewest } from "../ask.js";
 import { schedule } from "../catalogue.js";
-import { onSubmit } from "../fields.js";
+import { onNumber } from "../fields.js";
 import {
   asking, byId, details, factsOf, failed, inBytes, link, made, paragraph, quiet, say, sentence,
 } from "../page.js";
@@ -135,11 +135,7 @@ export function start() {
   acts.start(readAnew, () => shown);
   past = new HistoryPart("record-history");
   byId("record-told").append(past.node);
-  onSubmit(byId("record-form"), (values) => {
-    const address = `#record?number=${values["record-number"]}`;
-    if (location.hash === address) return open(values["record-number"]);
-    location.hash = address;
-  });
+  onNumber("record", open);
 }
 
 /** Shows the record that the address names. */

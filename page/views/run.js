@@ -1,6 +1,6 @@
 // Runs: open one, carry it out, look for one by its number.
 import { get, post } from "../ask.js";
-import { onSubmit, untick } from "../fields.js";
+import { onNumber, onSubmit, untick } from "../fields.js";
 import { asking, byId, details, factsOf, failed, link, made, paragraph, quiet, say, told } from "../page.js";
 import { openRun } from "../plain/acts.js";
 import { read } from "../plain/certificates.js";
@@ -102,11 +102,7 @@ export function start() {
   askReason(byId("run-resume"), ["resume"]);
   onSubmit(byId("run-open"), open);
   onSubmit(byId("run-resume"), resume);
-  onSubmit(byId("run-form"), (values) => {
-    const address = `#run?number=${values["run-number"]}`;
-    if (location.hash === address) return find(values["run-number"]);
-    location.hash = address;
-  });
+  onNumber("run", find);
 }
 
 /** Shows the run that the address names. */

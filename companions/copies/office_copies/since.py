@@ -66,10 +66,10 @@ def has(base: sqlite3.Connection, table: str) -> bool:
 def rows(base: sqlite3.Connection, section: Section) -> list[str]:
     """Returns the lines of a section: a column is a text of one line, so each row is one."""
     try:
-        found = base.execute(section.query).fetchall()
+        values = base.execute(section.query).fetchall()
     except sqlite3.Error as error:
         raise missing(f"{section.title}: {error}") from error
-    return ["\t".join("" if value is None else str(value) for value in row) for row in found]
+    return ["\t".join("" if value is None else str(value) for value in row) for row in values]
 
 
 def text_of(section: Section, lines: list[str]) -> str:

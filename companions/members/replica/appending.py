@@ -43,7 +43,7 @@ class Waiting:
         return self.told.done()
 
     def fail(self, error: NotTaken | Unclear) -> bool:
-        """Whether it has to end, since no try may follow: then it has."""
+        """Returns whether it has to end, since no try may follow: then it has."""
         self.is_clear = self.is_clear and isinstance(error, NotTaken)
         if self.is_clear:
             self.end(Appended(None, getattr(error, "name", "quorum")))
@@ -52,7 +52,7 @@ class Waiting:
         return self.has_ended()
 
     def is_late(self) -> bool:
-        """Whether it has waited too long for its turn: then it has ended, and is surely not in the log."""
+        """Returns whether it has waited too long for its turn: then it has ended, and is surely not in the log."""
         if self.is_clear and time.monotonic() - self.began > WAIT_SECONDS and not self.has_ended():
             self.end(Appended(None, "busy"))
         return self.has_ended()
@@ -109,24 +109,24 @@ class Appender:
                 self.append_all(group)
             except Exception as error:  # without this thread no act would be answered any more
                 say(f"not appended: {error!r}")
-                for it in group:
-                    if not it.has_ended():
-                        it.end(Appended(None, "unknown"))
+                for waiting in group:
+                    if not waiting.has_ended():
+                        waiting.end(Appended(None, "unknown"))
             with self.changed:
                 self.queue = [it for it in self.queue if not it.is_late()]
 
     def group(self) -> list[Waiting]:
-        """The requests that go together: the first that wait, each key once."""
-        found: list[Waiting] = []
+        """Returns the requests that go together: the first that wait, each key once."""
+        taken: list[Waiting] = []
         keys, size = set(), 0
-        for it in self.queue:
-            size += len(it.entry.body)
-            if found and size > LONGEST or len(found) == MOST:
+        for waiting in self.queue:
+            size += len(waiting.entry.body)
+            if taken and size > LONGEST or len(taken) == MOST:
                 break
-            if it.request.key not in keys:
-                found.append(it)
-                keys.add(it.request.key)
-        return found
+            if waiting.request.key not in keys:
+                taken.append(waiting)
+                keys.add(waiting.request.key)
+        return taken
 
     def append_all(self, group: list[Waiting]) -> None:
         """One transaction. Those that are still not in the log afterwards go with the next one."""
@@ -135,17 +135,17 @@ class Appender:
         try:
             if self.log.is_full and all(it.is_clear and not it.is_needed for it in group):
                 raise NotTaken("etcd is nearly full", "full")
-            first, found = self.log.try_append([it.request for it in group], wants)
+            first, earlier = self.log.try_append([it.request for it in group], wants)
             self.took = time.monotonic() - began
         except (NotTaken, Unclear) as error:
             return self.failed(group, error)
         if first is None:
-            return self.end_found(group, found)
+            return self.end_found(group, earlier)
         self.appended, self.transactions = self.appended + len(group), self.transactions + 1
         self.arrived.add([it.entry._replace(position=place) for place, it in enumerate(group, first)])
         self.tell(first, before)
-        for number, it in enumerate(group):
-            it.end(Appended(first + number))
+        for number, waiting in enumerate(group):
+            waiting.end(Appended(first + number))
         self.give_way()
 
     def give_way(self) -> None:
@@ -163,13 +163,14 @@ class Appender:
         if len(ended) < len(group):
             time.sleep(AGAIN_SECONDS)
 
-    def end_found(self, group: list[Waiting], found: dict[str, tuple[int, str]]) -> None:
+    def end_found(self, group: list[Waiting], earlier: dict[str, tuple[int, str]]) -> None:
         """Ends those that an earlier transaction has put into the log.
 
         It was an earlier request, unless one of this request may have done it, whose outcome nobody knows.
         """
-        for it in group:
-            if it.request.key in found:
-                position, digest = found[it.request.key]
-                is_repeated = it.is_clear
-                it.end(Appended(position, None, is_repeated) if digest == it.request.digest else Appended(None, "key"))
+        for waiting in group:
+            if waiting.request.key in earlier:
+                position, digest = earlier[waiting.request.key]
+                is_repeated = waiting.is_clear
+                is_same = digest == waiting.request.digest
+                waiting.end(Appended(position, None, is_repeated) if is_same else Appended(None, "key"))

@@ -28,24 +28,24 @@ class Arrived:
 
     def add(self, entries: Sequence[Entry]) -> None:
         with self.lock:
-            for it in entries:
+            for entry in entries:
                 if len(self.entries) >= MOST or self.size >= LONGEST:
                     self.has_missed = True
-                elif self.is_new(it.position):
-                    self.entries[it.position] = it
-                    self.size += len(it.body)
+                elif self.is_new(entry.position):
+                    self.entries[entry.position] = entry
+                    self.size += len(entry.body)
 
     def after(self, position: int) -> list[Entry]:
-        """The entries after a position, up to the first that has not come. Those before are not kept any longer."""
+        """Returns the entries after a position, up to the first that is missing, and forgets those before."""
         with self.lock:
             self.done = position
-            for it in [it for it in self.entries if it <= position]:
-                self.size -= len(self.entries.pop(it).body)
-            found: list[Entry] = []
-            while (entry := self.entries.get(position + 1 + len(found))) is not None:
-                found.append(entry)
-        return found
+            for past in [it for it in self.entries if it <= position]:
+                self.size -= len(self.entries.pop(past).body)
+            following: list[Entry] = []
+            while (entry := self.entries.get(position + 1 + len(following))) is not None:
+                following.append(entry)
+        return following
 
     def lacks_some(self) -> bool:
-        """Whether the next entry has to be read: something was missed, or a later one is here."""
+        """Returns whether the next entry has to be read: something was missed, or a later one is here."""
         return self.has_missed or bool(self.entries)

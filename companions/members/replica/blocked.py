@@ -50,7 +50,7 @@ class Blocked:
         return self.failures >= FAILURES and time.monotonic() < self.until
 
     def held(self) -> int | None:
-        """The entry that may not be done now, if there is one."""
+        """Returns the entry that may not be done now, if there is one."""
         return self.promised if self.promised is not None else self.position if self.is_waiting() else None
 
     def why(self) -> str:

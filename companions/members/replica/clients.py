@@ -40,9 +40,9 @@ class Rejected(Exception):
     """A request is neither an entry nor a reading: the name of its error."""
 
 
-def message(status: str, told: object, kind: str = "application/json") -> bytes:
-    """An answer of this program, in the form of the office's."""
-    body = told.encode() if isinstance(told, str) else json.dumps(told, separators=(",", ":")).encode()
+def message(status: str, content: object, kind: str = "application/json") -> bytes:
+    """Returns an answer of this program, in the form of the office's."""
+    body = content.encode() if isinstance(content, str) else json.dumps(content, separators=(",", ":")).encode()
     again = "Retry-After: 1\r\n" if status.startswith("503") else ""
     head = (f"HTTP/1.1 {status}\r\nContent-Type: {kind}\r\n"
             f"Content-Length: {len(body)}\r\n{again}Connection: close\r\n\r\n")
@@ -54,14 +54,14 @@ def error_message(name: str) -> bytes:
 
 
 def length_of(head: Head) -> int:
-    """The bytes of the body of some acts. Rejected where the head does not say it as the office wants it."""
+    """Returns the bytes of the body of some acts. Rejected where the head does not say it as the office wants it."""
     try:
         return client.length_of(head.lines("Transfer-Encoding"), head.lines("Content-Length"), LONGEST_ACTS)
     except client.WrongLength as wrong:
         raise Rejected("digits" if wrong.status == 400 else wrong.word) from wrong
 
 
-class Asked(NamedTuple):
+class ClientRequest(NamedTuple):
     """A request that came whole. With a key it is one for the log."""
 
     head: Head
@@ -81,8 +81,8 @@ class Connection:
         key = None
         try:
             async with asyncio.timeout(SILENT_SECONDS):
-                asked = await self.asked()
-            answer, key = await self.answer(asked), asked.key
+                request = await self.read_request()
+            answer, key = await self.answer(request), request.key
         except Rejected as error:
             answer = Answer(None, str(error))
         self.writer.write(self.written(answer, key))
@@ -92,21 +92,22 @@ class Connection:
                 await self.writer.drain()
         await self.leave()
 
-    async def asked(self) -> Asked:
-        """The request. Of a body no act is looked at."""
+    async def read_request(self) -> ClientRequest:
+        """Returns the request. Of a body no act is looked at."""
         head = await self.head()
         if not head.is_whole:
             raise Rejected("head")
         self.writer.write(head.told)
         if head.command != "POST" or head.target not in KINDS:
-            return Asked(head)
+            return ClientRequest(head)
         key = head.line("Idempotency-Key") or uuid.uuid4().hex
         if not head.has_host():
             raise Rejected("host")
         if not re.fullmatch("[A-Za-z0-9._~-]{1,64}", key):
             raise Rejected("header")
         try:
-            return Asked(head, key, await self.reader.readexactly(length_of(head)) if head.target == "/acts" else b"")
+            length = length_of(head) if head.target == "/acts" else 0
+            return ClientRequest(head, key, await self.reader.readexactly(length))
         except asyncio.IncompleteReadError as error:
             raise Rejected("body") from error
 
@@ -135,7 +136,7 @@ class Connection:
                 left -= len(part)
 
     def written(self, answer: Answer, key: str | None) -> bytes:
-        """The office's bytes, with some lines more in their head, or an error."""
+        """Returns the office's bytes, with some lines more in their head, or an error."""
         content = answer.content
         if isinstance(content, str):
             content = error_message(content)
@@ -149,8 +150,8 @@ class Connection:
             more += b"Office-Repeated: 1\r\n"
         return content.replace(b"\r\n", b"\r\n" + more, 1)
 
-    async def answer(self, asked: Asked) -> Answer:
-        head, key, body = asked
+    async def answer(self, request: ClientRequest) -> Answer:
+        head, key, body = request
         if key is not None:
             return await self.service.post(key, KINDS[head.target], body)
         if (head.command, head.target) == ("GET", "/replica"):
@@ -160,9 +161,9 @@ class Connection:
         return await self.read(head)
 
     async def read(self, head: Head) -> Answer:
-        """A reading, or what the office refuses."""
-        told, wanted = head.line("Office-After"), head.line("Office-Read")
-        after = "0" if told is None else told
+        """Returns a reading, or what the office refuses."""
+        position, wanted = head.line("Office-After"), head.line("Office-Read")
+        after = "0" if position is None else position
         if not head.has_host():
             raise Rejected("host")
         if not re.fullmatch("[0-9]{1,15}", after) or wanted not in (None, NEWEST, ANY):

@@ -48,16 +48,16 @@ def ask_for_snapshot(settings: Settings) -> None:
 
 
 def snapshot(settings: Settings) -> pathlib.Path:
-    """The newest snapshot, once it is no earlier than the member is now."""
-    wanted, began, asked = position_of(settings), time.monotonic(), 0.0
+    """Returns the newest snapshot, once it is no earlier than the member is now."""
+    wanted, began, requested = position_of(settings), time.monotonic(), 0.0
     folder = settings.folder / "snapshots"
     while time.monotonic() - began < SNAPSHOT_SECONDS:
         newest = max(positions_in(folder), default=-1)
         if newest >= wanted:
             return folder / f"{newest:016d}"
-        if not asked or time.monotonic() - asked > ASK_SECONDS:
+        if not requested or time.monotonic() - requested > ASK_SECONDS:
             ask_for_snapshot(settings)
-            asked = time.monotonic()
+            requested = time.monotonic()
         time.sleep(LOOK_SECONDS)
     raise NotCopied(f"the member made no snapshot of {wanted} or later in {SNAPSHOT_SECONDS} seconds")
 

@@ -53,7 +53,7 @@ class Doing:
             yield [entry], [self.answer(entry)]
 
     def answer(self, entry: Entry) -> bytes:
-        """The answer to one entry, by the office, or by the log alone where it refuses something."""
+        """Returns the answer to one entry, by the office, or by the log alone where it refuses something."""
         if entry.kind == REFUSED:
             return NOT_DONE
         if entry.kind == REFUSE:
@@ -66,14 +66,14 @@ class Doing:
         return answer
 
     def was_alone(self, group: list[Entry]) -> bool:
-        """Whether a failure was that of one entry. Otherwise these entries go alone from now on."""
+        """Returns whether a failure was that of one entry. Otherwise these entries go alone from now on."""
         if len(group) == 1 or group[0].position <= self.alone:
             return True
         self.alone = group[-1].position
         return False
 
     def joined(self, group: list[Entry]) -> list[bytes] | None:
-        """The answer to each entry of a group that goes as one list; None where the entries have to go alone.
+        """Returns the answer to each entry of a group that goes as one list; None where the entries have to go alone.
 
         Of a list that the office cannot read it has done nothing (400).
         """

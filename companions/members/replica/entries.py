@@ -24,10 +24,10 @@ class Entry(NamedTuple):
 
 
 def entry_at(key: str, value: bytes) -> Entry:
-    """The entry that a key of etcd has. Halt where it is none."""
+    """Returns the entry that a key of etcd has. Halt where it is none."""
     head, _, body = value.partition(b"\n")
     try:
-        told = json.loads(head)
-        return Entry(int(key[-16:]), told["key"], told["kind"], told["program"], body, told.get("member", ""))
+        values = json.loads(head)
+        return Entry(int(key[-16:]), values["key"], values["kind"], values["program"], body, values.get("member", ""))
     except (ValueError, KeyError, TypeError) as error:
         raise Halt(f"{key} is no entry: {error!r}") from error

@@ -32,47 +32,47 @@ def encoded(value: str | bytes) -> str:
 
 
 def put(key: str, value: str | bytes) -> Part:
-    """The operation that gives a key a value."""
+    """Returns the operation that gives a key a value."""
     return {"request_put": {"key": encoded(key), "value": encoded(value)}}
 
 
 def get(key: str, end: str | None = None, local: bool = False, limit: int = 0) -> Part:
-    """The operation that reads a key, or the keys from it to before `end`."""
-    what: Part = {"key": encoded(key), "limit": limit, "serializable": local}
+    """Returns the operation that reads a key, or the keys from it to before `end`."""
+    part: Part = {"key": encoded(key), "limit": limit, "serializable": local}
     if end is not None:
-        what["range_end"] = encoded(end)
-    return {"request_range": what}
+        part["range_end"] = encoded(end)
+    return {"request_range": part}
 
 
 def drop(key: str, end: str | None = None) -> Part:
-    """The operation that takes a key away, or the keys from it to before `end`."""
-    what = {"key": encoded(key)}
+    """Returns the operation that takes a key away, or the keys from it to before `end`."""
+    part = {"key": encoded(key)}
     if end is not None:
-        what["range_end"] = encoded(end)
-    return {"request_delete_range": what}
+        part["range_end"] = encoded(end)
+    return {"request_delete_range": part}
 
 
 def has(key: str, value: str) -> Part:
-    """The condition that a key has this value."""
+    """Returns the condition that a key has this value."""
     return {"key": encoded(key), "target": "VALUE", "value": encoded(value)}
 
 
 def absent(key: str) -> Part:
-    """The condition that there is no such key."""
+    """Returns the condition that there is no such key."""
     return {"key": encoded(key), "target": "VERSION", "version": 0}
 
 
 def none_after(revision: int, key: str, end: str) -> Part:
-    """The condition that no key of these was written after a revision."""
+    """Returns the condition that no key of these was written after a revision."""
     return {"key": encoded(key), "range_end": encoded(end), "target": "MOD", "result": "LESS",
             "mod_revision": str(revision + 1)}
 
 
 def rows_of(response: Part) -> list[Row]:
-    """The keys and values that one operation has read."""
-    found = response.get("response_range", {}).get("kvs", ())
+    """Returns the keys and values that one operation has read."""
+    rows = response.get("response_range", {}).get("kvs", ())
     return [(base64.b64decode(row["key"]).decode(), base64.b64decode(row.get("value", "")))
-            for row in found]
+            for row in rows]
 
 
 class Etcd:
@@ -85,7 +85,7 @@ class Etcd:
         """when the certificate that this etcd showed last ends, in seconds since 1970"""
 
     def connected(self, seconds: float) -> http.client.HTTPConnection:
-        """A new connection; NotTaken where there is none."""
+        """Returns a new connection; NotTaken where there is none."""
         if self.tls is None:
             link = http.client.HTTPConnection(self.place, timeout=seconds)
         else:
@@ -101,7 +101,7 @@ class Etcd:
         return link
 
     def free_link(self) -> Link:
-        """A connection that nobody else uses now."""
+        """Returns a connection that nobody else uses now."""
         while self.idle:
             try:
                 link = self.idle.pop()
@@ -112,15 +112,15 @@ class Etcd:
             link.close()
         return Link(self.connected(CALL_SECONDS))
 
-    def call(self, path: str, what: Part, local: bool) -> Part:
+    def call(self, path: str, part: Part, local: bool) -> Part:
         """What etcd answers. NotTaken: it has not begun. Unclear: nobody knows whether it has.
 
         Without `local` etcd begins only where it knows a leader.
         """
         link = self.free_link()
         try:
-            status, told = link.ask(path, json.dumps(what).encode(), () if local else LEADER)
-            answer: Part = json.loads(told)
+            status, content = link.ask(path, json.dumps(part).encode(), () if local else LEADER)
+            answer: Part = json.loads(content)
         except (OSError, ValueError) as error:
             link.close()
             raise Unclear(f"etcd: {error!r}") from error
@@ -136,17 +136,17 @@ class Etcd:
     def transact(self, conditions: Sequence[Part], done: Sequence[Part],
                  otherwise: Sequence[Part] = (),
                  local: bool = False) -> tuple[bool, list[list[Row]]]:
-        """Whether all conditions held, and what each operation of that case has read.
+        """Returns whether all conditions held, and what each operation of that case has read.
 
         `local` is for readings alone: what this machine's etcd has, which may be late.
         """
-        what = {"compare": conditions, "success": done, "failure": otherwise}
-        answer = self.call("/v3/kv/txn", what, local)
+        part = {"compare": conditions, "success": done, "failure": otherwise}
+        answer = self.call("/v3/kv/txn", part, local)
         return (answer.get("succeeded", False),
                 [rows_of(response) for response in answer.get("responses", ())])
 
     def read(self, operations: Sequence[Part]) -> tuple[int, list[list[Row]]]:
-        """The revision of what a majority has now, and what each operation has read."""
+        """Returns the revision of what a majority has now, and what each operation has read."""
         answer = self.call("/v3/kv/txn", {"compare": [], "success": operations, "failure": []}, False)
         return int(answer["header"]["revision"]), [rows_of(it) for it in answer.get("responses", ())]
 
@@ -159,23 +159,23 @@ class Etcd:
                 raise
 
     def size_in_use(self) -> int:
-        """The bytes of this etcd's database that are in use."""
+        """Returns the bytes of this etcd's database that are in use."""
         answer = self.call("/v3/maintenance/status", {}, True)
         return int(answer.get("dbSizeInUse", answer.get("dbSize", 0)))
 
-    def watch(self, first: str, end: str, told: Callable[[list[tuple[str, str]]], None]) -> None:
+    def watch(self, first: str, end: str, notify: Callable[[list[tuple[str, str]]], None]) -> None:
         """Tells of the keys from `first` to before `end` that get a value here, with it as the gateway writes it, in the
         order of the log. Tells of none where some may have come unseen before. Never returns."""
-        what = {"create_request": {"key": encoded(first), "range_end": encoded(end), "filters": ["NODELETE"]}}
+        part = {"create_request": {"key": encoded(first), "range_end": encoded(end), "filters": ["NODELETE"]}}
         while True:
             try:
                 link = self.connected(60)
-                link.request("POST", "/v3/watch", json.dumps(what))
+                link.request("POST", "/v3/watch", json.dumps(part))
                 response = link.getresponse()
                 while line := response.readline():
                     result = json.loads(line).get("result", {})
-                    told([(base64.b64decode(it["kv"]["key"]).decode(), it["kv"].get("value", ""))
-                          for it in result.get("events", ())])
+                    notify([(base64.b64decode(it["kv"]["key"]).decode(), it["kv"].get("value", ""))
+                            for it in result.get("events", ())])
                     if result.get("canceled"):
                         break
             except (NotTaken, OSError, http.client.HTTPException, ValueError, KeyError):

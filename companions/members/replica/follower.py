@@ -153,7 +153,7 @@ class Follower:
             memo.settle(True)
 
     def settled_memo(self) -> Memo | None:
-        """The memo of `work` where FILE is surely at its position, and no snapshot is beyond it."""
+        """Returns the memo of `work` where FILE is surely at its position, and no snapshot is beyond it."""
         try:
             memo = Memo(self.snapshots.work / "memo.db")
         except sqlite3.Error:
@@ -219,7 +219,7 @@ class Follower:
         return end.tail
 
     def entries_to_do(self) -> list[Entry]:
-        """The next entries, up to one that may not be done now. One that was refused is of the kind `refused`."""
+        """Returns the next entries, up to one that may not be done now. A refused one is of the kind `refused`."""
         held = self.blocked.held()
         if held == self.position + 1 and self.may_do(held):
             self.blocked.release()
@@ -228,7 +228,7 @@ class Follower:
                 for it in self.reading.after(self.position) if held is None or it.position < held]
 
     def may_do(self, position: int) -> bool:
-        """Whether an entry that failed may be tried, or is refused. A promise is taken back before."""
+        """Returns whether an entry that failed may be tried, or is refused. A promise is taken back before."""
         try:
             if position in self.log.refused:
                 return True
@@ -291,7 +291,7 @@ class Follower:
         return self.is_answering and not self.snapshots.is_under_way() and (self.wants_snapshot or not is_soon)
 
     def is_snapshot_now(self, is_due: bool, size: int) -> bool:
-        """Whether one begins now: by the entries, by SIGHUP or by the time."""
+        """Returns whether one begins now: by the entries, by SIGHUP or by the time."""
         if not self.may_pause(size):
             return False
         if not is_due and not self.wants_snapshot:
@@ -338,15 +338,15 @@ class Follower:
 
     def forget(self, memo: Memo, until: int) -> None:
         """Drops keys and answers of old entries, here and in etcd."""
-        while found := memo.oldest(until, 100):
-            self.log.drop_keys([key for _, key in found])
-            memo.forget(found[-1][0])
+        while old := memo.oldest(until, 100):
+            self.log.drop_keys([key for _, key in old])
+            memo.forget(old[-1][0])
 
     # ---- answering
 
     @property
     def is_reading(self) -> bool:
-        """Whether readings are answered; acts are only while `is_answering`."""
+        """Returns whether readings are answered; acts are only while `is_answering`."""
         return self.is_answering or self.is_before
 
     def decide(self, goal: int | None, is_split: bool) -> None:

@@ -54,7 +54,7 @@ def found(settings: Settings, file: pathlib.Path | None, copy: pathlib.Path | No
 
 
 def begin(name: str, log: Log, snapshots: Snapshots, file: pathlib.Path | None) -> int | None:
-    """The status; None where the log may have been begun: then the snapshot may be its own."""
+    """Returns the status; None where the log may have been begun: then the snapshot may be its own."""
     epoch = str(uuid.uuid4())
     try:
         snapshots.make_first(file, epoch)

@@ -50,21 +50,21 @@ class Freshness:
 
     def confirm(self) -> int:
         """Gives the end of the log, through a majority. NotTaken, Unclear: none answered."""
-        asked = now()
+        moment = now()
         tail = self.log.tail()
         with self.lock:
-            self.heard = asked if self.heard is None else max(self.heard, asked)
+            self.heard = moment if self.heard is None else max(self.heard, moment)
             self.tail = max(self.tail, tail)
-            self.note(tail, asked)
+            self.note(tail, moment)
         return tail
 
-    def note(self, tail: int, asked: float) -> None:
+    def note(self, tail: int, moment: float) -> None:
         """Adds an end of the log, in their order: what came out of order says nothing more."""
         if self.waiting and tail < self.waiting[-1][0]:
             return
         if self.waiting and tail == self.waiting[-1][0]:
-            asked = max(asked, self.waiting.pop()[1])
-        self.waiting.append((tail, asked))
+            moment = max(moment, self.waiting.pop()[1])
+        self.waiting.append((tail, moment))
         if len(self.waiting) > MOST_WAITING:
             del self.waiting[1::2]
 
@@ -72,8 +72,8 @@ class Freshness:
         """Gives the seconds since FILE, which is at this position, surely had everything. None: it never surely had."""
         with self.lock:
             while self.waiting and self.waiting[0][0] <= position:
-                asked = self.waiting.pop(0)[1]
-                self.complete = asked if self.complete is None else max(self.complete, asked)
+                moment = self.waiting.pop(0)[1]
+                self.complete = moment if self.complete is None else max(self.complete, moment)
             return None if self.complete is None else now() - self.complete
 
     def is_behind(self, position: int) -> bool:

@@ -24,12 +24,12 @@ STILL_SECONDS = 20
 
 
 def ticks_of(process: subprocess.Popen[bytes]) -> int | None:
-    """The processor time that a process has used, or None where there is none of it."""
+    """Returns the processor time that a process has used, or None where there is none of it."""
     try:
-        told = pathlib.Path(f"/proc/{process.pid}/stat").read_text(encoding="utf-8", errors="replace")
+        stat = pathlib.Path(f"/proc/{process.pid}/stat").read_text(encoding="utf-8", errors="replace")
     except OSError:
         return None
-    fields = told.rpartition(")")[2].split()
+    fields = stat.rpartition(")")[2].split()
     return int(fields[11]) + int(fields[12])
 
 
@@ -61,9 +61,9 @@ class Guard:
         if owes is None or process is None or ticks is None:
             self.seen, self.office.is_still = None, False
             return
-        seen, now = (owes, process.pid, ticks), time.monotonic()
-        if seen != self.seen:
-            self.seen, self.still = seen, now
+        state, now = (owes, process.pid, ticks), time.monotonic()
+        if state != self.seen:
+            self.seen, self.still = state, now
         self.office.is_still = now - self.still > self.limit / 2
         if now - self.still > self.limit:
             say(f"the office has done nothing for {self.limit} seconds while somebody waits: it is started again")

@@ -25,7 +25,7 @@ class Head(http.server.BaseHTTPRequestHandler):
         self.is_whole = self.parse_request() and self.is_strict(raw)
 
     def is_strict(self, raw: bytes) -> bool:
-        """Whether the office would take these bytes for a head too."""
+        """Returns whether the office would take these bytes for a head too."""
         return (len(self.requestline.split(" ")) == 3 and not self.headers.defects and len(self.headers) <= MOST_LINES
                 and STRANGE.search(raw) is None)
 
@@ -42,17 +42,17 @@ class Head(http.server.BaseHTTPRequestHandler):
 
     @property
     def target(self) -> str:
-        """The path as it came: `self.path` has fewer slashes."""
+        """Returns the path as it came: `self.path` has fewer slashes."""
         return self.requestline.split()[1]
 
     def lines(self, name: str) -> list[str]:
-        found: list[str] = self.headers.get_all(name, [])
-        return found
+        values: list[str] = self.headers.get_all(name, [])
+        return values
 
     def line(self, name: str) -> str | None:
-        """The first of these lines."""
-        found: str | None = self.headers.get(name)
-        return found
+        """Returns the first of these lines."""
+        value: str | None = self.headers.get(name)
+        return value
 
     def has_host(self) -> bool:
         return self.request_version == "HTTP/1.0" or len(self.lines("Host")) == 1

@@ -24,14 +24,14 @@ def acts_in(body: bytes) -> tuple[bytes, int] | None:
     """What is between the brackets of a list, and how many acts; None if the body is not surely a list."""
     try:
         text = body.decode().strip(SPACES)
-        told = json.loads(text)
+        acts = json.loads(text)
     except WRONG:
         return None
-    return (text[1:-1].encode(), len(told)) if isinstance(told, list) else None
+    return (text[1:-1].encode(), len(acts)) if isinstance(acts, list) else None
 
 
 def groups(entries: Sequence[Entry]) -> Iterator[list[Entry]]:
-    """The entries in their order, those that may be joined together."""
+    """Gives the entries in their order, those that may be joined together."""
     group: list[Entry] = []
     size = 0
     for entry in entries:
@@ -55,44 +55,44 @@ class Joined:
         self.body = b"[" + b",".join(inner for inner, count in parts if count) + b"]"
 
     def cut(self, answer: bytes) -> list[bytes] | None:
-        """The answer to each entry alone, byte for byte; None if this is not the answer to so many acts."""
+        """Returns the answer to each entry alone, byte for byte; None if this is not the answer to so many acts."""
         head, _, body = answer.partition(b"\r\n\r\n")
         lines = HEAD.fullmatch(head + b"\r\n")
-        told = None if lines is None else answers_in(body)
-        if lines is None or told is None or len(told) != sum(self.counts):
+        answers = None if lines is None else answers_in(body)
+        if lines is None or answers is None or len(answers) != sum(self.counts):
             return None
-        found, at = [], 0
+        responses, at = [], 0
         for count in self.counts:
-            mine, at = told[at:at + count], at + count
+            mine, at = answers[at:at + count], at + count
             is_refused = any("refused" in json.loads(it) for it in mine)
             own = b"[" + b",".join(mine) + b"]"
-            found.append(b"HTTP/1.1 %s%s%d%s\r\n%s" % (
+            responses.append(b"HTTP/1.1 %s%s%d%s\r\n%s" % (
                 b"409 Conflict" if is_refused else b"200 OK", lines[2], len(own), lines[4], own))
-        return found
+        return responses
 
 
 def answers_in(body: bytes) -> list[bytes] | None:
-    """The bytes of each answer in an array of them."""
+    """Returns the bytes of each answer in an array of them."""
     decoder, text, at = json.JSONDecoder(), body.decode("latin-1"), 1
-    found = []
+    answers = []
     try:
         while text[at:at + 1] == "{":
             _, end = decoder.raw_decode(text, at)
-            found.append(text[at:end].encode("latin-1"))
+            answers.append(text[at:end].encode("latin-1"))
             at = end + 1 if text[end:end + 1] == "," else end
     except WRONG:
         return None
-    return found if text[:1] == "[" and text[at:] == "]" and text[at - 1:at] != "," else None
+    return answers if text[:1] == "[" and text[at:] == "]" and text[at - 1:at] != "," else None
 
 
 def join(group: Sequence[Entry]) -> Joined | None:
-    """The entries of a group as one list, or None if one of them has to go alone."""
+    """Returns the entries of a group as one list, or None if one of them has to go alone."""
     if len(group) < 2:
         return None
     parts = []
     for entry in group:
-        found = acts_in(entry.body)
-        if found is None:
+        acts = acts_in(entry.body)
+        if acts is None:
             return None
-        parts.append(found)
+        parts.append(acts)
     return Joined(parts)

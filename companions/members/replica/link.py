@@ -27,7 +27,7 @@ class Link:
         self.talk = h11.Connection(h11.CLIENT)
 
     def is_open(self) -> bool:
-        """Whether it takes one more request: neither side has closed it."""
+        """Returns whether it takes one more request: neither side has closed it."""
         if self.talk.our_state is not h11.IDLE:
             return False
         poll = select.poll()
@@ -38,7 +38,7 @@ class Link:
         self.connection.close()
 
     def ask(self, path: str, body: bytes, lines: Sequence[tuple[str, str]] = ()) -> tuple[int, bytes]:
-        """The status and the body of the answer. `lines` are more lines of the head."""
+        """Returns the status and the body of the answer. `lines` are more lines of the head."""
         try:
             return self.answered(h11.Request(method="POST", target=path, headers=[
                 ("Host", self.place), ("Content-Type", "application/json"), ("Content-Length", str(len(body))), *lines]), body)
@@ -59,7 +59,7 @@ class Link:
         return status, b"".join(parts)
 
     def event(self) -> h11.Event:
-        """The next part of the answer."""
+        """Returns the next part of the answer."""
         while (event := self.talk.next_event()) is h11.NEED_DATA:
             self.talk.receive_data(self.connection.sock.recv(BLOCK))
         if isinstance(event, (h11.Event,)) and not isinstance(event, h11.ConnectionClosed):

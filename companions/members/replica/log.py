@@ -60,7 +60,7 @@ class End(NamedTuple):
 
 
 def machine_of(folder: pathlib.Path) -> str:
-    """The machine and the folder of a member, as no other member has them. The machine's id is not told."""
+    """Returns the machine and the folder of a member, as no other member has them. The machine's id is not told."""
     own = MACHINE_ID.read_text("ascii") if MACHINE_ID.exists() else socket.gethostname()
     digest = hashlib.sha256(b"office-member " + own.encode()).hexdigest()
     return f"{digest[:16]} {folder.resolve()}"
@@ -106,8 +106,8 @@ class Log:
         keys = [self.top + "keys/" + it.key for it in requests]
         last = before + len(requests)
         puts = [get(waits, self.top + "waits0"), drop(waits, self.top + "waits0"), put(tail, str(last))]
-        for position, (it, key) in enumerate(zip(requests, keys), before + 1):
-            puts += [put(self.entry_key(position), it.value), put(key, f"{position} {it.digest}")]
+        for position, (request, key) in enumerate(zip(requests, keys), before + 1):
+            puts += [put(self.entry_key(position), request.value), put(key, f"{position} {request.digest}")]
         late = [put(waits + self.member, str(wants))] if wants else []
         done, rows = self.etcd.transact([has(tail, str(before)), *map(absent, keys)], puts, [get(tail), *late])
         if done:
@@ -120,7 +120,7 @@ class Log:
         return None, self.found_keys(requests) if self.last == before else {}
 
     def found_keys(self, requests: Sequence[Request]) -> dict[str, tuple[int, str]]:
-        """The positions and digests of the requests whose keys are in the log. NotTaken: no majority tells."""
+        """Returns the positions and digests of the requests whose keys are in the log. NotTaken: no majority tells."""
         try:
             _, rows = self.etcd.transact([], [get(self.top + "keys/" + it.key) for it in requests])
         except Unclear as error:
@@ -133,7 +133,7 @@ class Log:
         return found
 
     def tail(self) -> int:
-        """The last position at this moment, through the quorum."""
+        """Returns the last position at this moment, through the quorum."""
         _, rows = self.etcd.transact([], [get(self.top + "tail")])
         if not rows[0]:
             raise NotTaken(f"there is no log {self.top} in etcd")
@@ -157,7 +157,7 @@ class Log:
         raise Unclear("this machine's etcd has no log yet")
 
     def after(self, position: int) -> tuple[list[Entry], int]:
-        """The next entries that this machine's etcd has, and where the log ends there."""
+        """Returns the next entries that this machine's etcd has, and where the log ends there."""
         _, (rows, tail, refused) = self.etcd.transact(
             [], [get(self.entry_key(position + 1), self.top + "log0", True, READ_AT_ONCE),
                  get(self.top + "tail", local=True),
@@ -180,7 +180,7 @@ class Log:
         return is_free
 
     def look_for_refusal(self, position: int) -> bool:
-        """Whether this machine's etcd knows that an entry was refused."""
+        """Returns whether this machine's etcd knows that an entry was refused."""
         _, rows = self.etcd.transact([], [get(self.refused_key(position), local=True)], local=True)
         if rows[0]:
             self.refused.add(position)
@@ -188,7 +188,7 @@ class Log:
 
     def watch(self, arrived: Arrived, changed: threading.Event) -> None:
         """Tells of new entries as this machine's etcd has them, and of those that are refused. Never returns."""
-        def told(rows: list[tuple[str, str]]) -> None:
+        def notify(rows: list[tuple[str, str]]) -> None:
             entries = []
             for key, value in rows:
                 kind = key[len(self.top):-16]
@@ -199,14 +199,14 @@ class Log:
                     if arrived.is_new(int(key[-16:])):
                         entries.append(entry_at(key, base64.b64decode(value)))
             arrived.add(entries)
-            for it in entries:
-                self.awaited.pop(it.member, None)
+            for entry in entries:
+                self.awaited.pop(entry.member, None)
             if not rows:
                 arrived.has_missed = True
             if entries or not rows:
                 changed.set()
 
-        self.etcd.watch(self.top + "log/", self.top + "refused0", told)
+        self.etcd.watch(self.top + "log/", self.top + "refused0", notify)
 
     def look_for_room(self) -> None:
         """Takes no entry while three quarters of etcd are in use.
@@ -240,8 +240,8 @@ class Log:
         holder = rows[0][0][1].decode() if rows[0] else None
         if holder is not None and rows[1]:
             raise Halt(f"another member has the name {self.member}: {holder}; this one is {self.machine}")
-        seen = [absent(machine)] if holder is None else [has(machine, holder), absent(member)]
-        if not self.etcd.transact(seen, [put(machine, self.machine)])[0]:
+        conditions = [absent(machine)] if holder is None else [has(machine, holder), absent(member)]
+        if not self.etcd.transact(conditions, [put(machine, self.machine)])[0]:
             raise NotTaken(f"somebody takes the name {self.member} just now")
 
     def reported(self, operations: Sequence[Part]) -> list[list[Row]]:

@@ -34,7 +34,7 @@ ENDED, HALTED = 1, 5
 
 
 def made(settings: Settings) -> tuple[Log, Follower]:
-    """The parts of a member, none of them started."""
+    """Returns the parts of a member, none of them started."""
     program = Program(settings.office, settings.disk)
     log = Log(settings, Etcd(settings.etcd, settings.tls()), program.digest)
     office = Office(program, work_file(settings.folder), settings.office_port)
@@ -42,7 +42,7 @@ def made(settings: Settings) -> tuple[Log, Follower]:
 
 
 def locked(settings: Settings) -> object:
-    """The lock of the folder, with this process's number in it, held as long as this value lives."""
+    """Returns the lock of the folder, with this process's number in it, held as long as this value lives."""
     file = open(settings.folder / "lock", "a", encoding="utf-8")
     fcntl.flock(file, fcntl.LOCK_EX | fcntl.LOCK_NB)
     file.truncate(0)

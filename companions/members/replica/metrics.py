@@ -24,36 +24,37 @@ def counter(name: str, text: str, value: int) -> Metric:
 
 
 def metrics(service: Service) -> list[Metric]:
-    """The numbers of a member as they are now."""
-    state, it, appender = service.state(), service.follower, service.follower.appender
+    """Returns the numbers of a member as they are now."""
+    state, follower, appender = service.state(), service.follower, service.follower.appender
     return [
         gauge("answers", "whether plain readings are answered", bool(state["answers"])),
-        gauge("acts_are_taken", "whether requests that act are taken", it.is_answering),
+        gauge("acts_are_taken", "whether requests that act are taken", follower.is_answering),
         gauge("quorum", "whether a majority was heard in the last five seconds", bool(state["quorum"])),
-        gauge("position", "the last entry that was done here", it.position),
+        gauge("position", "the last entry that was done here", follower.position),
         gauge("lag", "entries of the log that are still to be done here", state["lag"]),
         gauge("age_seconds", "what any machine answered more than so many seconds ago is here", state["age"]),
         gauge("heard_seconds", "since a majority told where the log ends", state["heard"]),
-        gauge("snapshot_position", "the older snapshot, as it was reported; the log is kept from there on", it.reported),
+        gauge("snapshot_position", "the older snapshot, as it was reported; the log is kept from there on",
+              follower.reported),
         gauge("etcd_full", "whether etcd has no room for entries", bool(state["full"])),
         gauge("certificate_days", "until the certificate of this machine's etcd ends", state["certificate_days"]),
-        counter("entries", "entries that were done here since the start", it.done),
-        counter("restores", "how often the member went back to a snapshot since its start", it.restores),
-        counter("office_starts", "how often the office was started", it.office.starts),
+        counter("entries", "entries that were done here since the start", follower.done),
+        counter("restores", "how often the member went back to a snapshot since its start", follower.restores),
+        counter("office_starts", "how often the office was started", follower.office.starts),
         counter("appended", "requests that this member put into the log", appender.appended),
         counter("append_transactions", "transactions that put them there", appender.transactions),
-        counter("joined_entries", "entries that went to the office together with others", it.doing.joined_entries)]
+        counter("joined_entries", "entries that went to the office together with others", follower.doing.joined_entries)]
 
 
 def text(service: Service) -> str:
-    """All of them, each with the log's and the member's name."""
+    """Returns all of them, each with the log's and the member's name."""
     log = service.log
     lines = []
-    for it in metrics(service):
-        if it.value is not None:
-            name = f"office_member_{it.name}"
-            lines += [f"# HELP {name} {it.help}", f"# TYPE {name} {it.kind}",
-                      f'{name}{{log="{log.name}",member="{log.member}"}} {float(it.value):g}'
-                      if isinstance(it.value, float) else
-                      f'{name}{{log="{log.name}",member="{log.member}"}} {int(it.value)}']
+    for metric in metrics(service):
+        if metric.value is not None:
+            name = f"office_member_{metric.name}"
+            lines += [f"# HELP {name} {metric.help}", f"# TYPE {name} {metric.kind}",
+                      f'{name}{{log="{log.name}",member="{log.member}"}} {float(metric.value):g}'
+                      if isinstance(metric.value, float) else
+                      f'{name}{{log="{log.name}",member="{log.member}"}} {int(metric.value)}']
     return "\n".join(lines) + "\n"

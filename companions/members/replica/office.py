@@ -23,7 +23,7 @@ ANSWER_SECONDS = 600
 
 
 def status_of(answer: bytes, is_bodiless: bool = False) -> int | None:
-    """The status of an answer that is there to its last byte, else None."""
+    """Returns the status of an answer that is there to its last byte, else None."""
     head, end, body = answer.partition(b"\r\n\r\n")
     size = re.search(rb"\r\nContent-Length: (\d+)", head)
     if not end or size is None or not (is_bodiless or len(body) == int(size[1])):
@@ -32,7 +32,7 @@ def status_of(answer: bytes, is_bodiless: bool = False) -> int | None:
 
 
 def follows_from_log(answer: bytes) -> bool:
-    """Whether an answer to an entry is the one that each office at this state gives.
+    """Returns whether an answer to an entry is the one that each office at this state gives.
 
     Every other one is a fault of this machine: memory, the disk, a broken connection.
     """
@@ -88,7 +88,7 @@ class Office(Server):
             self.owes, self.is_starting = None, False
 
     def ask(self, method: str, path: str, body: bytes | None = None, seconds: float = float("inf")) -> bytes:
-        """All bytes that the office answers. TimeoutError: not within these seconds."""
+        """Returns all bytes that the office answers. TimeoutError: not within these seconds."""
         self.owes = time.monotonic()
         until = self.owes + seconds
         try:
@@ -105,9 +105,9 @@ class Office(Server):
         if not has_content(self.file):
             raise Fault(f"{self.file} is gone, or empty")
         log = log_of(self.file)
-        for it in (log, self.file, self.file.parent):
-            if it is not log or log.exists():
-                sync(it)
+        for path in (log, self.file, self.file.parent):
+            if path is not log or log.exists():
+                sync(path)
 
     def trouble(self, limit: float) -> str:
         """Why it may not answer a reading now, or nothing: somebody has waited longer than the limit."""

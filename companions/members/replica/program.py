@@ -24,11 +24,11 @@ class Program:
 
     def __init__(self, name: str, disk: str | None = None) -> None:
         """Opens and hashes it. `disk` is OFFICE_DISK of what is run, unless the environment's is taken."""
-        found = shutil.which(name)
-        if found is None:
+        path = shutil.which(name)
+        if path is None:
             raise SystemExit(f"office-member: there is no program {name}")
-        self.path = found
-        self.descriptor = os.open(found, os.O_RDONLY | os.O_CLOEXEC)
+        self.path = path
+        self.descriptor = os.open(path, os.O_RDONLY | os.O_CLOEXEC)
         self.digest = self.hash()
         self.environment = dict(os.environ)
         if disk is not None:
@@ -42,14 +42,14 @@ class Program:
             at += len(part)
         return total.hexdigest()
 
-    def start(self, words: Sequence[str], **more: Any) -> subprocess.Popen[bytes]:
+    def start(self, args: Sequence[str], **more: Any) -> subprocess.Popen[bytes]:
         """Starts the program; its process ends with this thread. Halt where its file was written over."""
         if self.hash() != self.digest:
             raise Halt(f"the program {self.path} was written over while this member ran")
-        return program.start(self.path, list(words), self.descriptor, env=self.environment, **more)
+        return program.start(self.path, list(args), self.descriptor, env=self.environment, **more)
 
-    def run(self, words: Sequence[str]) -> None:
+    def run(self, args: Sequence[str]) -> None:
         """Runs it to its end. CalledProcessError where that is not status 0."""
-        status = self.start(words, stdout=subprocess.DEVNULL).wait()
+        status = self.start(args, stdout=subprocess.DEVNULL).wait()
         if status != 0:
-            raise subprocess.CalledProcessError(status, [self.path, *words])
+            raise subprocess.CalledProcessError(status, [self.path, *args])

@@ -25,7 +25,7 @@ class Reading:
         self.again = 0.0
 
     def after(self, position: int) -> list[Entry]:
-        """The entries after a position; none where etcd does not answer.
+        """Returns the entries after a position; none where etcd does not answer.
 
         Fault where they are not there any more.
         """

@@ -28,9 +28,9 @@ class NotRefused(Exception):
 def refuse(log: Log, position: int) -> int:
     """Gives the position of the entry that refuses another one. NotRefused where that may not be."""
     for _ in range(TRIES):
-        found = try_refuse(log, position)
-        if found is not None:
-            return found
+        outcome = try_refuse(log, position)
+        if outcome is not None:
+            return outcome
     raise NotRefused("the members change just now: try again")
 
 
@@ -46,8 +46,8 @@ def try_refuse(log: Log, position: int) -> int | None:
     if not entry:
         raise NotRefused(f"the log has no entry {position}")
     names = [key.rpartition("/")[2] for key, _ in members]
-    told = {key.rpartition("/")[2]: int(value) for key, value in blocked}
-    others = [name for name in names if told.get(name) != position]
+    positions = {key.rpartition("/")[2]: int(value) for key, value in blocked}
+    others = [name for name in names if positions.get(name) != position]
     if others or not names:
         raise NotRefused(f"not promised by {', '.join(others) or 'any member'}: a member promises once it has failed "
                          "at the entry three times; start it, or strike it off")
@@ -62,7 +62,7 @@ def try_refuse(log: Log, position: int) -> int | None:
 
 
 def own_value(log: Log, entry: Entry) -> bytes:
-    """The value of the entry that refuses another one."""
+    """Returns the value of the entry that refuses another one."""
     head = {"key": f"refuse-{entry.position}", "kind": REFUSE, "member": log.member, "program": entry.program}
     return json.dumps(head).encode() + b"\n" + str(entry.position).encode()
 

@@ -33,7 +33,7 @@ class Regular:
         self.owed, self.last = max(0, self.owed - 1), time.monotonic()
 
     def is_soon(self, seconds: int) -> bool:
-        """Whether so few seconds have gone by since the last one, or since the start."""
+        """Returns whether so few seconds have gone by since the last one, or since the start."""
         return time.monotonic() - self.last < seconds
 
     def may_ask(self) -> bool:
@@ -44,5 +44,5 @@ class Regular:
         return True
 
     def is_due(self, is_full: bool) -> bool:
-        """Whether one is owed since long, or at all while etcd is nearly full: no entry makes another position then."""
+        """Returns whether one is owed since long, or at all while etcd is nearly full: no entry comes then."""
         return self.owed > 0 and (is_full or self.seconds > 0 and time.monotonic() - self.last > self.seconds)

@@ -37,13 +37,13 @@ class Answer(NamedTuple):
     is_repeated: bool = False
 
 
-async def is_told(told: Future[bool], seconds: float) -> bool:
-    """Whether it is told in these seconds. Afterwards nobody waits for it."""
-    if told.done():
-        return told.result()
+async def is_told(future: Future[bool], seconds: float) -> bool:
+    """Returns whether it is told in these seconds. Afterwards nobody waits for it."""
+    if future.done():
+        return future.result()
     try:
         async with asyncio.timeout(seconds):
-            return await asyncio.wrap_future(told)
+            return await asyncio.wrap_future(future)
     except TimeoutError:
         return False
 
@@ -61,7 +61,7 @@ class Service:
         return await asyncio.get_running_loop().run_in_executor(self.threads, work)
 
     async def post(self, key: str, kind: str, body: bytes) -> Answer:
-        """The answer to a request that may change the office.
+        """Returns the answer to a request that may change the office.
 
         `recovering`, `busy`, `quorum`, `full`, `key`: this call put nothing into the log.
         `unknown`: perhaps it did; with a position it surely did. The same key may be tried again
@@ -81,7 +81,7 @@ class Service:
         return Answer(position, "unknown" if answer is None else answer, is_repeated=appended.is_repeated)
 
     async def read(self, method: str, path: str, wanted: str | None, after: int) -> Answer:
-        """The answer to a request that changes nothing, from the own office.
+        """Returns the answer to a request that changes nothing, from the own office.
 
         It is at least at the position `after`; with NEWEST at least where the log ended as the
         request came. `behind`: it would not be there in time, or would be older than the limit.
@@ -110,7 +110,7 @@ class Service:
             self.follower.office.lock.release()
 
     def ends_before(self, position: int) -> bool:
-        """Whether a majority says that the log ends before a position. What any member answered is in the log."""
+        """Returns whether the log ends before a position, by a majority. What any member answered is in the log."""
         try:
             return self.freshness.confirm() < position
         except (NotTaken, Unclear):
@@ -154,25 +154,25 @@ class Service:
 
     def trouble(self) -> str:
         """Why plain readings are not answered now, or nothing."""
-        it, freshness = self.follower, self.freshness
-        if not it.is_answering:
-            return it.why or "it follows the log"
-        if freshness.is_behind(it.position):
-            age = freshness.age(it.position)
+        follower, freshness = self.follower, self.freshness
+        if not follower.is_answering:
+            return follower.why or "it follows the log"
+        if freshness.is_behind(follower.position):
+            age = freshness.age(follower.position)
             return ("no majority has told where the log ends since the start" if age is None else
                     f"it may lack what was answered in the last {whole(age)} seconds")
-        return it.office.trouble(self.limit)
+        return follower.office.trouble(self.limit)
 
     def state(self) -> dict[str, object]:
         """What /replica tells."""
-        it, memo, why = self.follower, self.follower.memo, self.trouble()
-        return {"answers": not why, "why": why, **self.freshness.state(it.position),
+        follower, memo, why = self.follower, self.follower.memo, self.trouble()
+        return {"answers": not why, "why": why, **self.freshness.state(follower.position),
                 "certificate_days": self.certificate_days(),
                 "chain": "" if memo is None else memo.chain, "full": self.log.is_full,
-                "member": self.log.member, "position": it.position, "program": self.log.program,
-                "restores": it.restores, "snapshot": it.reported}
+                "member": self.log.member, "position": follower.position, "program": self.log.program,
+                "restores": follower.restores, "snapshot": follower.reported}
 
     def certificate_days(self) -> int | None:
-        """The days until etcd's certificate ends, by the clock of this machine; None without one."""
+        """Returns the days until etcd's certificate ends, by the clock of this machine; None without one."""
         ends = self.log.etcd.certificate_ends
         return None if ends is None else int((ends - time.time()) // 86_400)

@@ -93,7 +93,7 @@ def fault_of(values: dict[str, object]) -> str | None:
 
 
 def read_settings(path: str) -> Settings:
-    """The settings in the file, or an end with status 2 and a line that says what is wrong."""
+    """Returns the settings in the file, or an end with status 2 and a line that says what is wrong."""
     try:
         values = json.loads(pathlib.Path(path).read_text(encoding="utf-8"))
         fault = "it is no object" if not isinstance(values, dict) else fault_of(values)

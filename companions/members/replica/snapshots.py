@@ -49,7 +49,7 @@ def sum_of(file: pathlib.Path) -> str:
 
 
 def sums_in(folder: pathlib.Path) -> dict[str, str]:
-    """The sum of each file of a snapshot, as it was written. OSError, ValueError where there are none."""
+    """Returns the sum of each file of a snapshot, as it was written. OSError, ValueError where there are none."""
     lines = (folder / "sums").read_text(encoding="utf-8").splitlines()
     return dict((name, digest) for digest, name in (line.split("  ") for line in lines))
 
@@ -65,7 +65,7 @@ def positions_in(folder: pathlib.Path) -> list[int]:
 
 
 def has_sums(folder: pathlib.Path) -> bool:
-    """Whether each file of a snapshot is the one that was written."""
+    """Returns whether each file of a snapshot is the one that was written."""
     try:
         wanted = sums_in(folder)
         return {"office.db", "memo.db"} <= set(wanted) and all(
@@ -152,9 +152,9 @@ class Snapshots:
         shutil.rmtree(new, ignore_errors=True)
         new.mkdir(mode=0o700, parents=True)
         if file is not None:
-            for it in files_of(file):
-                copy([it], new)
-                (new / it.name).rename(new / f"office.db{it.name[len(file.name):]}")
+            for path in files_of(file):
+                copy([path], new)
+                (new / path.name).rename(new / f"office.db{path.name[len(file.name):]}")
         Memo.make(new / "memo.db", epoch)
         self.finish(new, 0)
 

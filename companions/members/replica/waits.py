@@ -10,7 +10,7 @@ class Wait(NamedTuple):
     """What somebody waits for, and how that is told."""
 
     is_so: Callable[[], bool]
-    told: Future[bool]
+    future: Future[bool]
 
 
 class Waits:
@@ -23,12 +23,12 @@ class Waits:
     def wake(self) -> None:
         """Tells those for whom it is so now, and forgets those who have given up."""
         left = []
-        for it in self.waiting:
-            if it.is_so():
-                if it.told.set_running_or_notify_cancel():
-                    it.told.set_result(True)
-            elif not it.told.cancelled():
-                left.append(it)
+        for waiting in self.waiting:
+            if waiting.is_so():
+                if waiting.future.set_running_or_notify_cancel():
+                    waiting.future.set_result(True)
+            elif not waiting.future.cancelled():
+                left.append(waiting)
         self.waiting = left
 
     def until(self, is_so: Callable[[], bool]) -> Future[bool]:
@@ -36,7 +36,7 @@ class Waits:
         mine = Wait(is_so, Future())
         with self.lock:
             if is_so():
-                mine.told.set_result(True)
+                mine.future.set_result(True)
             else:
                 self.waiting.append(mine)
-        return mine.told
+        return mine.future

@@ -34,24 +34,24 @@ def digest(data: bytes) -> str:
 
 
 def text(number: int, office: str, certificate: int, sealed: str, previous: str, at: str, why: str) -> bytes:
-    """The text of a seal, which is signed."""
+    """Returns the text of a seal, which is signed."""
     return (f"SEAL {number}\nOFFICE {office}\nCERTIFICATE {certificate}\nSHA256 {sealed}\nPREVIOUS {previous}\n"
             f"AT {at}\nWHY {why}\n").encode()
 
 
 def read(seals: pathlib.Path, office: str) -> list[Seal]:
     """Reads all seals of a folder, which must be one chain of this office."""
-    found: list[Seal] = []
+    chain: list[Seal] = []
     for at, folder in enumerate(sorted(it for it in seals.iterdir() if re.fullmatch("[0-9]{6}", it.name)), 1):
         try:
             data = (folder / "seal.txt").read_bytes()
         except OSError as why:
             raise Refused(WRONG, f"{folder} has no seal: {why.strerror}") from why
-        said = FORM.fullmatch(data.decode(errors="replace"))
-        before = found[-1].own if found else FIRST
-        if said is None or (int(said[1]), folder.name, said[5]) != (at, f"{at:06}", before):
+        match = FORM.fullmatch(data.decode(errors="replace"))
+        before = chain[-1].own if chain else FIRST
+        if match is None or (int(match[1]), folder.name, match[5]) != (at, f"{at:06}", before):
             raise Refused(WRONG, f"the chain of seals is broken at {folder}: bring the folder back from its copy")
-        if said[2] != office:
-            raise Refused(WRONG, f"{folder} is of the office {said[2]}, and not of {office}")
-        found.append(Seal(folder, at, said[2], int(said[3]), said[4], said[5], said[6], digest(data)))
-    return found
+        if match[2] != office:
+            raise Refused(WRONG, f"{folder} is of the office {match[2]}, and not of {office}")
+        chain.append(Seal(folder, at, match[2], int(match[3]), match[4], match[5], match[6], digest(data)))
+    return chain

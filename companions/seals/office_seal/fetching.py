@@ -17,12 +17,12 @@ ADVICE = ("was a backup restored, or was FILE changed by somebody else? Find out
 
 
 def kept(folder: pathlib.Path) -> dict[int, pathlib.Path]:
-    """The certificates in a folder, by their numbers in order."""
-    found = {int(name[1]): it for it in folder.iterdir() if (name := NAME.fullmatch(it.name))}
-    return dict(sorted(found.items()))
+    """Returns the certificates in a folder, by their numbers in order."""
+    files = {int(name[1]): it for it in folder.iterdir() if (name := NAME.fullmatch(it.name))}
+    return dict(sorted(files.items()))
 
 
-def asked(place: str, number: int) -> bytes | None:
+def certificate(place: str, number: int) -> bytes | None:
     """Asks the office for a certificate; None if it has none of this number."""
     try:
         answer = Client(place, SECONDS).ask("GET", f"/certificates/{number}")
@@ -40,7 +40,7 @@ def asked(place: str, number: int) -> bytes | None:
 
 
 def fetch(place: str, folder: pathlib.Path, is_restored: bool) -> int:
-    """Keeps each certificate that is not there yet: how many. The position is the last one that is there.
+    """Keeps each certificate that is missing, and returns how many. The position is the last one that is there.
 
     The office must still have that one with the same bytes. After a restore, and only with the word for it, all are
     compared, and those that the office has no more are taken out: their seals keep them.
@@ -48,11 +48,11 @@ def fetch(place: str, folder: pathlib.Path, is_restored: bool) -> int:
     with files.locked(folder):
         there = kept(folder)
         last = max(there, default=0)
-        if last and not is_restored and asked(place, last) != there[last].read_bytes():
+        if last and not is_restored and certificate(place, last) != there[last].read_bytes():
             raise Refused(WRONG, f"the office has another certificate {last} than {there[last]}, or has it no more: "
                                  f"{ADVICE}")
         number, new = (0 if is_restored else last) + 1, 0
-        while (text := asked(place, number)) is not None:
+        while (text := certificate(place, number)) is not None:
             if number not in there or there[number].read_bytes() != text:
                 files.write(folder / f"certificate-{number}.txt", text)
                 new += 1

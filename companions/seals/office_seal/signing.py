@@ -19,32 +19,32 @@ NEW = ".new"
 LOST = b"lost"
 
 
-def tool(*words: str, data: bytes = b"") -> bytes:
+def tool(*args: str, data: bytes = b"") -> bytes:
     """Runs a program and returns what it prints."""
     try:
-        done = subprocess.run(words, input=data, capture_output=True, check=False,
+        done = subprocess.run(args, input=data, capture_output=True, check=False,
                               env={**os.environ, "SSH_ASKPASS_REQUIRE": "never", "LC_ALL": "C"})
     except OSError as why:
-        raise Refused(IMPOSSIBLE, f"there is no {words[0]}: {why.strerror}") from why
+        raise Refused(IMPOSSIBLE, f"there is no {args[0]}: {why.strerror}") from why
     if done.returncode:
-        raise Refused(IMPOSSIBLE, f"{words[0]}: {(done.stderr or done.stdout).decode(errors='replace').strip()}")
+        raise Refused(IMPOSSIBLE, f"{args[0]}: {(done.stderr or done.stdout).decode(errors='replace').strip()}")
     return done.stdout
 
 
 def fingerprint(line: bytes) -> str:
-    """The fingerprint in a line that ssh-keygen prints."""
+    """Returns the fingerprint in a line that ssh-keygen prints."""
     return next((it for it in line.decode(errors="replace").split() if it.startswith("SHA256:")), "")
 
 
 def signer(seal: Seal) -> str:
-    """The fingerprint of the key that signed a seal."""
+    """Returns the fingerprint of the key that signed a seal."""
     signed = (seal.folder / "seal.txt").read_bytes()
     return fingerprint(tool("ssh-keygen", "-Y", "check-novalidate", "-n", SPACE, "-s",
                             str(seal.folder / "seal.txt.sig"), data=signed))
 
 
 def keys_in(file: pathlib.Path | None) -> set[str]:
-    """The fingerprints of the public keys in a file."""
+    """Returns the fingerprints of the public keys in a file."""
     if file is None:
         return set()
     return {fingerprint(it) for it in tool("ssh-keygen", "-l", "-f", str(file)).splitlines()} - {""}
@@ -60,7 +60,7 @@ class Sealer:
     was_clock_wrong: bool = False
 
     def chain(self) -> list[Seal]:
-        """The seals that are there. An office that has a seal had a key."""
+        """Returns the seals that are there. An office that has a seal had a key."""
         there = chain.read(self.seals, self.office)
         if not self.key.is_file() or self.key.read_bytes().strip() == LOST:
             lost = f"the key is lost, and nothing follows seal {there[-1].number}" if there else "there is no key"
@@ -68,7 +68,7 @@ class Sealer:
         return there
 
     def moment(self, there: list[Seal]) -> str:
-        """The moment of the next seal, which is not before that of the last one."""
+        """Returns the moment of the next seal, which is not before that of the last one."""
         now = time.strftime("%Y-%m-%dT%H:%M:%SZ", time.gmtime())
         if there and now < there[-1].at and not self.was_clock_wrong:
             raise Refused(IMPOSSIBLE, f"the clock of this machine is at {now}, and seal {there[-1].number} at "
@@ -100,8 +100,8 @@ def sign(certificates: pathlib.Path, sealer: Sealer, is_restored: bool) -> int:
     with files.locked(sealer.seals):
         there, new = sealer.chain(), 0
         sealed: dict[int, set[str]] = {}
-        for it in there:
-            sealed.setdefault(it.certificate, set()).add(it.digest)
+        for seal in there:
+            sealed.setdefault(seal.certificate, set()).add(seal.digest)
         for number, file in fetching.kept(certificates).items():
             body = file.read_bytes()
             texts = sealed.get(number, set())

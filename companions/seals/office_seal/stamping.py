@@ -43,7 +43,7 @@ def stamp(seals: pathlib.Path, office: str, authority: Authority) -> int:
 
 
 def answered(authority: Authority, query: bytes) -> bytes:
-    """The authority's reply, which must be a stamp of this very query, signed by that authority."""
+    """Returns the authority's reply, which must be a stamp of this very query, signed by that authority."""
     request = urllib.request.Request(authority.url, query, {"Content-Type": "application/timestamp-query"})
     try:
         with urllib.request.urlopen(request, timeout=SECONDS) as reply:
@@ -51,12 +51,12 @@ def answered(authority: Authority, query: bytes) -> bytes:
     except (urllib.error.URLError, OSError, http.client.HTTPException, ValueError) as why:
         raise Refused(IMPOSSIBLE, f"{authority.url} gives no stamp: {why}") from why
     with tempfile.TemporaryDirectory() as name:
-        asked, given = pathlib.Path(name) / "query", pathlib.Path(name) / "reply"
-        asked.write_bytes(query)
+        question, given = pathlib.Path(name) / "query", pathlib.Path(name) / "reply"
+        question.write_bytes(query)
         given.write_bytes(data)
         try:
             # the nonce, the imprint and the signature
-            tool("openssl", "ts", "-verify", "-queryfile", str(asked), "-in", str(given), "-CAfile",
+            tool("openssl", "ts", "-verify", "-queryfile", str(question), "-in", str(given), "-CAfile",
                  str(authority.certificates))
         except Refused as why:
             raise Refused(IMPOSSIBLE, f"the answer of {authority.url} is no stamp of this signature by the authority of "

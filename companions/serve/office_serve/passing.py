@@ -1,4 +1,5 @@
-"""One connection: what the client sends goes to the program, and the answer goes back, byte for byte."""
+"""One connection: what the client sends goes to the program, and the answer goes back, byte for byte. A reading at the
+socket gets lines that state who asks, if the office decides that."""
 import select
 import socket
 import struct
@@ -27,8 +28,9 @@ class Way:
         self.last = b""
         self.has_ended = False
         self.is_open = True
-        # how a request has to begin, where readings alone are served
+        # how a request has to begin, where readings alone are served, and the lines that follow its first line
         self.only = b""
+        self.lines = b""
         self.is_refused = False
 
     def can_read(self) -> bool:
@@ -49,7 +51,16 @@ class Way:
         self.is_refused = self.beginning[:size] != self.only[:size]
         self.has_ended = not block
         # what nobody takes any more is read to its end nevertheless
-        self.waiting = block if self.is_open and not self.is_refused else b""
+        self.waiting = self.with_lines(block) if self.is_open and not self.is_refused else b""
+
+    def with_lines(self, block: bytes) -> bytes:
+        """Puts the lines that state who asks behind the first line of a head. They are there before any line of the
+        client, so none of these takes their place."""
+        line, end, rest = block.partition(b"\n")
+        if not self.lines or not end:
+            return block
+        lines, self.lines = self.lines, b""
+        return line + end + lines + rest
 
     def write(self) -> None:
         try:
@@ -72,14 +83,14 @@ class Way:
 class Passing:
     """Passes one connection to its end. Used once."""
 
-    def __init__(self, client: socket.socket, link: socket.socket, only: bytes = b"") -> None:
+    def __init__(self, client: socket.socket, link: socket.socket, only: bytes = b"", lines: bytes = b"") -> None:
         self.client, self.link = client, link
         self.request, self.answer = Way(client, link), Way(link, client)
-        self.request.only = only
+        self.request.only, self.request.lines = only, lines
         self.answer_ends: float | None = None
         self.head_ends = time.monotonic() + HEAD_SECONDS if only else None
-        for it in (client, link):
-            it.setblocking(False)
+        for end in (client, link):
+            end.setblocking(False)
 
     def is_answered(self) -> bool:
         return bool(self.answer.beginning)

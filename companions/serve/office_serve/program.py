@@ -1,4 +1,4 @@
-"""The process of `office serve`: its start, a connection to it, its end."""
+"""The process of `office serve`, or of `office gate`: its start, a connection to it, its end."""
 import os
 import select
 import socket
@@ -9,6 +9,7 @@ from pathlib import Path
 from office_common import program
 from office_common.errors import IMPOSSIBLE, Refused
 
+from office_serve.door import Door
 from office_serve.stopping import Stop
 from office_serve.streams import error_stream
 from office_serve.watching import Watch
@@ -20,16 +21,30 @@ END_SECONDS = 30
 class Program(program.Server):
     """The office's program over FILE, at a port of its own. It ends with office-serve."""
 
-    def __init__(self, path: str, file: Path, count: int) -> None:
+    def __init__(self, path: str, file: Path, count: int, door: Door | None = None) -> None:
         super().__init__(file)
         self.path = path
         self.count = count
+        self.door = door
+        self.secret = ""
         self.left = 0
+
+    def args(self, count: int = program.MOST) -> list[str]:
+        """Returns the arguments of a process that ends after so many connections."""
+        if self.door is None:
+            return super().args(count)
+        return ["gate", str(self.file), str(self.port), str(count), str(self.door.access), str(self.door.token)]
+
+    def reader_lines(self) -> bytes:
+        """Returns the lines that a reading at the socket gets; none for a program that does not decide."""
+        return b"" if self.door is None else self.door.lines(self.secret)
 
     def start(self, stop: Stop, watch: Watch) -> bool:
         """Opens FILE by a new process. Returns whether it listens; if not, somebody asked to stop meanwhile."""
         # in the unit's own network no other process takes the port meanwhile
         self.port, self.left = program.free_port(), self.count
+        if self.door is not None:
+            self.secret = self.door.secret()
         errors = error_stream()
         self.process = program.start(self.path, self.args(self.count), stdout=subprocess.PIPE, stderr=errors)
         if errors is not None:

@@ -38,9 +38,9 @@ class Service:
         """Serves until somebody asks it to stop, and then closes FILE."""
         files.check(self.program.file)
         self.listeners = listening.listeners(self.places)
-        for it in self.listeners:
+        for listener in self.listeners:
             # a client that went away before it was accepted keeps nobody waiting
-            it.setblocking(False)
+            listener.setblocking(False)
         try:
             if self.start():
                 ready()
@@ -50,8 +50,8 @@ class Service:
             self.program.stop()
             self.lingering.end()
         notify(f"STOPPING=1\nWATCHDOG_USEC={CLOSING_USEC}")
-        for it in self.listeners:
-            it.close()
+        for listener in self.listeners:
+            listener.close()
         files.close_if_open(self.program.path, self.program.file)
 
     def start(self) -> bool:
@@ -106,7 +106,7 @@ class Service:
             if not is_started:
                 client.close()
                 return
-        passing = Passing(client, link, only)
+        passing = Passing(client, link, only, self.program.reader_lines() if only else b"")
         assert self.program.process is not None
         why = passing.run(self.stop, self.watch, self.program.process.pid)
         if why:
