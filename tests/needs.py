@@ -53,6 +53,7 @@ NEEDS = {
     "nodejs": Need("nodejs", "node"),
     "openssl": Need("openssl openssh-client", "openssl ssh-keygen"),
     "poppler": Need("poppler-utils", "pdftotext"),
+    "slapd": Need("slapd ldap-utils python3-ldap3 python3-jwt python3-cryptography", "slapd ldapmodify", "ldap3 jwt cryptography"),
     "slowhttptest": Need("slowhttptest e2fsprogs adduser", "slowhttptest chattr adduser"),
     "sqlite3": Need("sqlite3", "sqlite3"),
     "strace": Need("strace", "strace"),

@@ -22,10 +22,21 @@ PACKAGES = {
     "gate": "adduser,apache2-utils,curl,e2fsprogs,libnginx-mod-http-js,logrotate,nftables,nginx-light,openssl,procps,"
             "python3,python3-aiohttp,python3-h11,sqlite3,systemd",
     "vault": "adduser,python3,sqlite3,systemd,curl",
+    # a fresh Debian, and curl for the trial
+    "setup": "curl,e2fsprogs,systemd,systemd-sysv",
+    "signin": "adduser,curl,e2fsprogs,ldap-utils,libnginx-mod-http-js,logrotate,nftables,nginx-light,openssh-client,"
+              "openssl,procps,python3,python3-aiohttp,python3-h11,python3-ldap3,slapd,sqlite3,systemd,"
+              "systemd-sysv",
     "replicas": "adduser,python3,python3-h11,sqlite3,systemd,systemd-sysv,etcd-server,etcd-client,openssl,curl,"
                 "keepalived,nftables,iproute2,nginx-light,openssh-server",
 }
 """The packages of each small Debian, by the trial that boots it."""
+LATER = {
+    # what docs/SETUP.md has installed, and what the package depends on
+    "setup": "adduser libnginx-mod-http-js logrotate nftables nginx openssh-client openssl python3 python3-aiohttp "
+             "python3-h11 sqlite3",
+}
+"""The packages that lie there as files, so that `apt-get install` installs them in a machine without a network."""
 
 
 def cache() -> pathlib.Path:
@@ -35,13 +46,26 @@ def cache() -> pathlib.Path:
 
 def stem(name: str) -> str:
     """Returns how the files of a Debian begin: other packages, or another suite, give another stem."""
-    digest = hashlib.sha256(f"{SUITE} {PACKAGES[name]}".encode()).hexdigest()
+    content = " ".join([SUITE, PACKAGES[name], *LATER.get(name, "").split()])
+    digest = hashlib.sha256(content.encode()).hexdigest()
     return f"{name}-{digest[:12]}-"
 
 
 def of_this_week(name: str) -> pathlib.Path:
     """Returns where the tar of this week is, or will be."""
     return cache() / f"{stem(name)}{time.strftime('%G-W%V', time.gmtime())}.tar"
+
+
+def words_of(name: str, file: pathlib.Path) -> list[str]:
+    """Returns the command that makes a Debian."""
+    later: list[str] = []
+    if name in LATER:
+        # mmdebstrap switches off what a fresh Debian has on
+        load = f"apt-get install --quiet=2 --yes --download-only --option APT::Install-Recommends=1 {LATER[name]}"
+        later = ["--skip=cleanup/apt", *(f'--customize-hook=chroot "$1" {it}' for it in ("apt-get clean", load))]
+    # without a sync of each file, dpkg takes a fraction of the time
+    return ["mmdebstrap", "--quiet", "--variant=minbase", "--dpkgopt=force-unsafe-io", *later,
+            f"--include={PACKAGES[name]}", SUITE, str(file), MIRROR]
 
 
 def made(name: str) -> list[pathlib.Path]:
@@ -64,10 +88,8 @@ def make(name: str) -> str:
         fcntl.flock(lock, fcntl.LOCK_EX)
         if wanted.exists():
             return ""
-        # without a sync of each file, dpkg takes a fraction of the time
-        words = ["mmdebstrap", "--quiet", "--variant=minbase", "--dpkgopt=force-unsafe-io",
-                 f"--include={PACKAGES[name]}", SUITE, str(unfinished), MIRROR]
-        done = subprocess.run(words, stdin=subprocess.DEVNULL, capture_output=True, text=True, check=False)
+        done = subprocess.run(words_of(name, unfinished), stdin=subprocess.DEVNULL, capture_output=True, text=True,
+                              check=False)
         if done.returncode:
             unfinished.unlink(missing_ok=True)
             return f"mmdebstrap could not make one from {MIRROR}: {' '.join(done.stderr.split())[-300:]}"

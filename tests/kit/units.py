@@ -7,7 +7,7 @@ from collections.abc import Iterator
 
 TOP = pathlib.Path(__file__).resolve().parents[2]
 FOLDERS = (TOP / "deploy/systemd", *sorted(TOP.glob("companions/*/units")))
-SUFFIXES = (".service", ".timer", ".socket")
+SUFFIXES = (".service", ".timer", ".socket", ".path", ".target")
 LAID_TWICE = {"office@.service.d": "office-.service.d"}
 """folders of drop-ins that a machine has too, each with the one whose files are in it"""
 

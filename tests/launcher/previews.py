@@ -1,5 +1,6 @@
 """Previews: compiled once and kept, or, where a kit keeps its programs elsewhere, compiled each time; what they print."""
 import os
+import pathlib
 import re
 import signal
 import subprocess
@@ -12,11 +13,15 @@ from pages.commands import commands
 from kit.judging import judge
 from pages.shell import Done, Shell
 
+INTERRUPTED = pathlib.Path(__file__).with_name("interrupted.py")
 DUE = "clone/office due years 7 from-month-4 2017-06-30"
 INIT = "clone/office init archive.db"
 COMPILED = "office: compiled with checks, not proved, not for records that matter: ./office build proves it (half an hour)\n"
 WHOLE = "office: compiling a preview, with checks and without proof: about 4 minutes\n"
 SMALL = "office: compiling a preview of due and plan, with checks and without proof: about 1 minute\n"
+SECRET = "0123456789abcdefABCDEF0123456789"
+SETTINGS = "site https://localhost\\nzone UTC\\nrole reader reads records\\nname reader is reader\\n"
+"""of a gate, as printf takes it"""
 # commands of the table of README.md that its blocks do not show, and some that are refused
 MORE = [
     "./office due months 1 none 2024-01-31", "./office due weeks x none 2024-01-31", "./office due days 1 none 2024-13-01",
@@ -28,6 +33,10 @@ MORE = [
     "./office resume first.db", "./office apply letters.db none.json", "./office apply letters.db examples/plan/usual.plan",
     "./office serve first.db 8080 2 & until curl --silent --fail --output /dev/null http://127.0.0.1:8080/x || [ $? = 22 ]; "
     "do sleep 0.1; done; curl --silent http://127.0.0.1:8080/records/1/content; wait", "./office serve first.db 0 1",
+    "./office gate first.db 8080 1 none.access none.token", "./office gate first.db 0 1 first.access first.token",
+    "./office gate first.db 8080 2 first.access first.token & until curl --silent --fail --output /dev/null "
+    "http://127.0.0.1:8080/x || [ $? = 22 ]; do sleep 0.1; done; curl --silent --header 'Office-Token: " + SECRET +
+    "' --header 'Office-Name: reader' --header 'Office-Day: 2026-06-01' http://127.0.0.1:8080/records/1; wait",
 ]
 
 
@@ -109,6 +118,9 @@ def judge_stopped(clone: Clone) -> None:
     left = [*map(str, room.iterdir()), *(it.name for it in clone.out.glob("preview/*") if it.suffix != ".lock")]
     judge("and leaves nothing behind", not left, f"{left}")
     clone.tried()
+    done = clone.run(f"python3 -I {INTERRUPTED} {clone.top} {clone.words}", SLOW="30")
+    judge("one that is stopped as it starts rt ends rt", done.out == "130 rt has ended\n", f"{done}")
+    clone.tried()
 
 
 def judge_beside(clone: Clone) -> None:
@@ -170,7 +182,7 @@ def judge_alike(shell: Shell, preview: Callable[[str], Done]) -> None:
     """Each command of README.md, by the built program and by a preview, each in a folder of its own."""
     lines = [it.line for it in commands("README.md") if it.shown is not None and "office demo" not in it.line]
     for run in (shell.run, preview):
-        run("rm -f first.db* letters.db*")
+        run(f"rm -f first.db* letters.db*; printf '{SETTINGS}' >first.access; printf {SECRET} >first.token")
     for line in [*lines, *MORE]:
         built, kept = shell.run(line), plain(preview(line))
         judge(f"by a preview as by the built program: {line}", built == kept, f"{built}\n{kept}")

@@ -11,6 +11,7 @@ from service_scripts.place import OFFICE, SECONDS
 from kit.companions import companion
 from kit.office import start
 from kit.ports import free_port
+from kit.sockets import rest_of
 from kit.waiting import comes
 
 
@@ -32,6 +33,21 @@ def answer_of(port: int, request: bytes, pause: float = 0, half: bool = False) -
         except OSError as error:
             got += f"<{type(error).__name__}>".encode()
         return got
+
+
+def answer_at(path: pathlib.Path, request: bytes, size: int = 1 << 16, pause: float = 0) -> bytes:
+    """Sends a request to a socket of the file system, in parts of that size, and returns all that comes back."""
+    with socket.socket(socket.AF_UNIX) as link:
+        link.settimeout(SECONDS)
+        link.connect(str(path))
+        try:
+            for at in range(0, len(request), size):
+                link.sendall(request[at:at + size])
+                time.sleep(pause)
+            link.shutdown(socket.SHUT_WR)
+        except OSError:
+            pass
+        return rest_of(link)
 
 
 def get(port: int, path: str) -> bytes:

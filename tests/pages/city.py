@@ -19,6 +19,8 @@ def unit_words() -> str:
     """How the unit calls the program, for the office city."""
     unit = (TOP / "deploy/systemd/office@.service").read_text()
     words = re.search(r"^ExecStart=/usr/local/bin/(.*)$", unit, re.M)[1].replace("%i", "city")
+    # without the drop-ins of an office that decides there are no more options
+    words = words.replace("$OFFICE_OPTIONS ", "")
     for name, value in re.findall(r"^(\w+)=(\w+)$", (TOP / "deploy/systemd/city.conf").read_text(), re.M):
         words = words.replace(f"${{{name}}}", value)
     return words

@@ -4,7 +4,10 @@ from pages.files import alone
 from pages.shell import Shell
 
 PAGE = "docs/INSTALL.md"
+BOOTED = "it needs systemd; tests/setup/booted runs it as the page has it"
 ROWS = [
+    Row("office-setup", skip=BOOTED),
+    Row("editor", skip=BOOTED),
     Row("./office build"),
     Row("./office package", skip="tests/package/run makes it"),
     Row("apt-get install ./office_", skip="tests/package/run installs it"),

@@ -8,7 +8,7 @@ import sys
 from service_scripts.place import FIRST, LAST, NOBODY, OFFICE, TOP, apply, made, run, script
 from kit.judging import judge
 
-sys.path.insert(0, str(TOP / "companions/gate"))
+sys.path[:0] = [str(TOP / "companions/gate"), str(TOP / "companions")]
 from office_gate.chain import START, linked  # noqa: E402
 
 TITLES = {"m1": "Letter of Anna Müller", "m2": "Invoice MUELLER 2024", "x1": "Letter of B. Mullen",

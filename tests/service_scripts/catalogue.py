@@ -108,24 +108,30 @@ def refused(folder: pathlib.Path, file: pathlib.Path, copy: pathlib.Path, place:
     run("sqlite3", older, "UPDATE office SET version = 1")
     stands, served = sorted(place.rglob("*")), Served(file)
     asking = folder / "slow/asking"
-    slow = path_with(folder / "slow", "sqlite3", f": >{asking}\nsleep 600")
+    path_with(folder / "slow", "office", f": >{asking}\nsleep 600")
     asking.parent.chmod(0o777)
-    full = path_with(folder / "full", "gzip", "cat >/dev/null; echo 'no space left' >&2; exit 1")
+    # a disk that takes as many bytes of a file
+    full = "prlimit", "--fsize=10000"
     try:
-        for name, which, how in (("a damaged copy", damaged, {}), ("a copy of version 1", older, {}),
-                                 ("a FILE that is served", file, {}), ("a full disk", copy, {"PATH": full})):
-            status, _, error = script("office-catalogue", which, place, user=NOBODY, **how)
-            judge(f"of {name} none is made", status == 1 and sorted(place.rglob("*")) == stands, error.strip())
+        for name, which, how in (("a damaged copy", damaged, ()), ("a copy of version 1", older, ()),
+                                 ("a FILE that is served", file, ()), ("a copy, on a full disk", copy, full),
+                                 ("a copy that is missing", file.with_name("none.db"), ())):
+            status, _, error = run(*how, companion("office-catalogue"), which, place, user=NOBODY)
+            judge(f"of {name} none is made", status == 1 and error.count("office-catalogue: ") == 1
+                  and sorted(place.rglob("*")) == stands, error.strip())
     finally:
         served.end()
+    with copy.open("rb"):
+        status, _, error = script("office-catalogue", copy, place)
+        judge("of a copy that somebody has open none is made", status == 1 and "somebody has" in error
+              and sorted(place.rglob("*")) == stands, error.strip())
     killed = subprocess.Popen([companion("office-catalogue"), copy, place], user=NOBODY, group=NOBODY, extra_groups=[],
-                              env={**os.environ, "PATH": slow}, start_new_session=True)
+                              env={**os.environ, "OFFICE": f"{folder}/slow/office"}, start_new_session=True)
     began = comes(asking.exists)
     killed.kill()
     killed.wait()
     judge("one that is killed leaves the one that is there", began and (place / "now").resolve() in stands
           and len(list((place / "now").iterdir())) == 11)
-    # what it started holds the lock of its folder until it has ended
     os.killpg(killed.pid, signal.SIGKILL)
     left = list(place.glob(".office-catalogue.*"))
     judge("and a folder, which a later one removes", len(left) == 1 and left[0].is_dir(), left)

@@ -8,8 +8,10 @@ from __future__ import annotations
 import os
 import pathlib
 import shutil
+import sys
 
 from service_scripts.place import NOBODY, OFFICE, made, run, script
+from kit.commands import TOP
 from kit.companions import companion
 from kit.judging import judge
 
@@ -66,6 +68,13 @@ def raced(folder: pathlib.Path, name: str, words: list[object], by: tuple[str, s
           + (error or out).strip()[:150])
 
 
+AS_ANOTHER = """import os, sys
+sys.path[:0] = ["{0}", "{0}/registers"]
+from office_common import rights
+from office_lists import commands
+sys.exit(commands.run(["{2}"], owner=rights.owner_in(os.stat("{1}"))))"""
+"""runs a command as the owner of a file"""
+
 # the folder of the last word
 OF_LAST = 'for it; do :; done; dirname -- "$it"'
 
@@ -82,7 +91,8 @@ def owner(folder: pathlib.Path) -> None:
     clean(home, file, before[0])
     raced(folder, "office-compact", [file], ("office", "*init*.??????/office.db", OF_LAST), ["office.db"])
     clean(home, file, before[0])
-    raced(folder, "office-catalogue", [copy, own], ("sqlite3", "*version*", "pwd"), ["files/schedules.json.gz"])
+    raced(folder, "office-catalogue", [copy, own], ("office", "*init*/office.db", OF_LAST),
+          ["files/schedules.json.gz", "office.db"])
     raced(folder, "office-backup", [file, own / "copy.db"], ("cp", "*/office.db", OF_LAST), ["office.db"])
     links(folder, file, copy)
 
@@ -103,7 +113,7 @@ def links(folder: pathlib.Path, file: pathlib.Path, copy: pathlib.Path) -> None:
     link.symlink_to(victim)
     os.lchown(link, NOBODY, NOBODY)
     for name, words in (("office-restore", [link, copy]), ("office-compact", [link]),
-                        ("office-prune", [link])):
+                        ("office-prune", [link]), ("office-overdue", [link, "-", "2025-02-02", 30])):
         status, _, error = script(name, *words)
         judge(f"{name}: FILE is a link of its owner to a file of root's: it is refused",
               status == 1 and "decide where" in error and victim.stat().st_ino == os.stat(link).st_ino, error.strip())
@@ -115,9 +125,24 @@ def links(folder: pathlib.Path, file: pathlib.Path, copy: pathlib.Path) -> None:
     judge("office-backup: a copy in a folder of root's is root's",
           status == 0 and (copy.with_name("root.db").stat().st_uid, copy.with_name("root.db").stat().st_mode & 0o777)
           == (0, 0o600), error.strip())
+    registers(folder, file)
     seen = folder / "seen"
     seen.write_text('#!/bin/sh\n[ "$(cut -d" " -f6 /proc/$$/stat)" = $$ ] && echo "$(id -u), own session, $SECRET"\n')
     seen.chmod(0o755)
-    said = run("sh", "-c", f'. {companion("office-shared")}; find_owner {file}; become {seen}', SECRET="of-root")[1]
-    judge("the owner gets nothing of root's environment, and no session with root's terminal",
-          said == f"{NOBODY}, own session, \n", said)
+    for shell, line in ((("sh", "-c"), f'. {companion("office-shared")}; find_owner {file}; become {seen}'),
+                        ((sys.executable, "-I", "-c"), AS_ANOTHER.format(TOP / "companions", file, seen))):
+        output = run(*shell, line, SECRET="of-root")[1]
+        judge(f"{shell[0]}: the owner gets nothing of root's environment, and no session with root's terminal",
+              output == f"{NOBODY}, own session, \n", output)
+
+
+def registers(folder: pathlib.Path, file: pathlib.Path) -> None:
+    """Root makes a register: in a folder of root's it is root's, in one that others may change it makes none."""
+    for name, mode, wanted in (("roots", 0o700, (0, 0, 0o600)), ("shared", 0o777, (1, None, None))):
+        there = folder / name
+        there.mkdir()
+        there.chmod(mode)
+        status, _, error = script("office-overdue", file, there, "2025-02-02", 30)
+        lists = [(path.name, path.stat()) for path in there.iterdir()]
+        made = [(status, state.st_uid, state.st_mode & 0o777) for _, state in lists] or [(status, None, None)]
+        judge(f"office-overdue: a register in a folder of root's with mode {mode:o}", made == [wanted], f"{lists} {error}")

@@ -14,6 +14,23 @@ KINDS = ("add-schedule", "add-class", "set-class-schedule", "add-aggregation", "
          "set-record-schedule", "reclassify", "place-hold", "hold-on", "hold-off", "lift-hold", "confirm", "review",
          "receipt", "event", "open-run", "run-step")
 """the kinds in the order of their numbers"""
+SMALL = """# a small office
+\tbegin # of all
+site https://localhost
+zone Etc/UTC
+role r may confirm in A* B-1 # ä
+role r reads lists
+
+name x is r
+name x signs Ä. B.
+name * is r in C
+rule confirmer-does-not-open
+end\t# of all
+# nothing more
+""".encode()
+"""a small file with marks"""
+ENDS = SMALL.rindex(b"end") + len("end")
+"""where its last statement ends"""
 POWERS = {**{kind: number for number, kind in enumerate(KINDS)}, "resume": 18, "vault": 19, "later-day": 20,
           **{f"read {thing}": 21 + number for number, thing in enumerate(READS)}}
 assert set(KINDS) == set(ACTS)
@@ -73,7 +90,8 @@ def mutants(seed: int, count: int) -> list[bytes]:
             b"name manager is legal", b"name auditor signs Auditor", b"name zoe signs Zoe", b"name zoe is nobody",
             b"role legal may confirm in BLDG* FIN*", b"role x may vault", b"name zoe is x x legal", b"limit lists 3",
             b"rule changer-does-not-open 7", b"rule reason-for confirm", b"journal acts", b"name legal signs manager",
-            b"name LEGAL is auditor", b"role auditor reads contents in * if sent", b"\t", b"#", b"\r", b"keep free 1"]
+            b"name LEGAL is auditor", b"role auditor reads contents in * if sent", b"\t", b"#", b"\r", b"keep free 1",
+            b"begin", b"end", b"end x", b" end #", b"ends"]
     made = [example]
     for _ in range(count):
         now = list(lines)
@@ -104,6 +122,11 @@ def mutants(seed: int, count: int) -> list[bytes]:
                 now = [b""]
         made.append(b"\n".join(now))
     return made
+
+
+def cuts() -> list[bytes]:
+    """Returns the beginnings of a small file with marks."""
+    return [SMALL[:length] for length in range(len(SMALL) + 1)]
 
 
 def by_program(text: str) -> list[list[str]]:
@@ -144,23 +167,35 @@ def kind(gate: list[str], program: list[str]) -> str:
     return f"another line: gate {gate[0].split(None, 2)[2][-60:]} | program {program[0].split(None, 2)[2][:60]}"
 
 
+def kind_of_cut(length: int, gate: list[str], program: list[str]) -> str:
+    """Returns how the two take a beginning of the small file: all of its statements, or none."""
+    refused, denied = gate[0].startswith(" fault"), program[0].startswith(" fault")
+    if length < ENDS:
+        return "cut, refused by both" if refused and denied else "CUT, AND READ"
+    return "cut behind the end, the same rights" if gate == program and not refused else "CUT BEHIND THE END, NOT READ"
+
+
 def is_wrong(name: str) -> bool:
     """Whether no file may differ so: only a zone that nobody knows, and letters of two scripts, are the gate's alone."""
     if name.startswith("only the gate refuses"):
         return "time zone" not in name and "letters of" not in name
-    return name == "OTHER RIGHTS"
+    return name == "OTHER RIGHTS" or name.startswith("CUT")
 
 
 def main() -> int:
     if sys.argv[1] == "make":
         folder, seed, count = Path(sys.argv[2]), int(sys.argv[3]), int(sys.argv[4])
-        for number, data in enumerate(mutants(seed, count)):
+        made = [*cuts(), *mutants(seed, count)]
+        for number, data in enumerate(made):
             (folder / str(number)).write_bytes(data)
+        print(len(made))
         return 0
     folder, printed = Path(sys.argv[2]), Path(sys.argv[3])
     kinds: dict[str, list[int]] = {}
     for number, program in enumerate(by_program(printed.read_text(errors="replace"))):
-        kinds.setdefault(kind(once(by_gate(folder / str(number))), program), []).append(number)
+        gate = once(by_gate(folder / str(number)))
+        name = kind_of_cut(number, gate, program) if number <= len(SMALL) else kind(gate, program)
+        kinds.setdefault(name, []).append(number)
     for name, numbers in sorted(kinds.items(), key=lambda pair: -len(pair[1])):
         print(f"{len(numbers)} {name}, as file {numbers[0]}")
     return 1 if any(is_wrong(name) for name in kinds) else 0

@@ -10,6 +10,9 @@ from checks.tree import TOP
 LISTS = {
     "tests/gate/mutants": ("tests/gate/planted/", "companions/gate/office_gate/"),
     "tests/vault/mutants": ("tests/vault/planted", "companions/vault/office_vault/"),
+    "tests/service_scripts/mutants": ("tests/service_scripts/planted", "companions/office_common/", "companions/registers/"),
+    "tests/setup/mutants": ("tests/setup/planted", "companions/setup/office_setup/"),
+    "tests/signin/mutants": ("tests/signin/planted", "companions/signin/office_signin/", "deploy/nginx/sign"),
     "tests/web/mutants": ("tests/web/planted/", "page/"),
     "tests/transfer/mutants": ("tests/transfer/planted", "companions/transfer/", "companions/seals/", "companions/registers/"),
     "tests/intake/mutants": ("tests/intake/planted", "companions/sheets/intak", "companions/sheets/office-intake"),

@@ -11,7 +11,7 @@ from checks.tree import TOP, files
 
 NGINX = "deploy/nginx"
 MODULE = "/usr/lib/nginx/modules/ngx_http_js_module.so"
-SITES = ("office.conf", "offices.conf", "gated.conf")
+SITES = ("office.conf", "offices.conf", "gated.conf", "signed.conf")
 OF_MEMBERS = "companions/members/setup/nginx.conf"
 MAIN = """load_module {module};
 include {folder}/limits.conf;

@@ -74,7 +74,7 @@ CHECKS = (
     Check("fail2ban", "the filter and the jail of fail2ban", lambda name: "/fail2ban/" in name, machine.fail2ban),
     Check("prometheus", "rules and configuration of Prometheus, by promtool",
           ends("office.rules.yml", "prometheus.yml"), machine.prometheus),
-    Check("environment", "settings that units read", ends("city.conf", "city.mail", "etcd.conf"), machine.environment),
+    Check("environment", "settings that units read", ends("city.conf", "city.intake", "city.mail", "etcd.conf"), machine.environment),
     Check("keepalived", "blocks of keepalived are balanced", ends("keepalived.conf"), machine.keepalived),
     Check("access", "settings of a gate, by office-gate", ends(".access"), machine.access),
     Check("members", "settings of a member, by the member", ends("companions/members/setup/city.json"), machine.members),

@@ -11,16 +11,21 @@ from kit.units import lay_out
 
 SUFFIXES = (".service", ".timer", ".socket", ".target", ".path", ".mount", ".slice")
 INSTANCE = "city"
+ALL = "office-all@%i.target"
+"""what stops and starts all units of an office"""
+APART = ("office-failed@", "office-member")
+"""units that are no part of it: an instance of one is named after a unit, members are of several machines"""
 FOLDER = "lib/systemd/system"
 PLACED = re.compile(r"^(?P<file>/[^:\n]+):(?P<line>\d+): (?P<text>.+)$")
 OF_UNIT = re.compile(r"^(?P<unit>[\w@.-]+\.\w+): (?P<text>.+)$")
 NOT_HERE = re.compile(r"Command /\S+ is not executable: No such file or directory")
 """what is said of a program that is installed elsewhere; own programs are looked for in the repository"""
-MAIL = {"office-failed@.service": 6.5, "office-overdue-mail@.service": 6.5}
+MAIL = {"office-failed@.service": 6.5, "office-overdue-mail@.service": 6.5, "office-sign-in-mail.service": 6.5}
 """units that hand mail to the machine's mail program, which becomes another user"""
 EXPOSED = {**MAIL, "office-certificates@.service": 0.6, "office-compact@.service": 1.1,
-           "office-etcd-defrag.service": 1.3, "office-etcd.service": 1.5, "office-gate@.service": 1.7, "office-journal-check@.service": 1.1,
-           "office-member-nightly@.service": 1.5, "office-member@.service": 1.3, "office-stamp@.service": 1.4,
+           "office-etcd-defrag.service": 1.3, "office-etcd.service": 1.5, "office-gate@.service": 1.7, "office-intake@.service": 1.3,
+           "office-journal-check@.service": 1.1, "office-member-nightly@.service": 1.5, "office-member@.service": 1.3,
+           "office-sign-in-gates.service": 2.0, "office-sign-in.service": 1.5, "office-stamp@.service": 1.4,
            "office-vault-check@.service": 0.6, "office-vault-mirror@.service": 0.6, "office-vault-sweep@.service": 0.6,
            "office-vault@.service": 0.6, "office-yearend@.service": 1.3, "office@.service": 0.8}
 """how much of the machine a unit may reach at most, from 0 to 10 as systemd-analyze counts it"""
@@ -62,6 +67,21 @@ def named_programs(names: list[str]) -> list[Finding]:
     return findings
 
 
+def parted(names: list[str]) -> list[Finding]:
+    """Looks that the target of all units of an office stops each of its units, and starts those that can be enabled."""
+    findings = []
+    for name in names:
+        unit, text = pathlib.PurePosixPath(name).name, read(name)
+        if "@." not in unit or suffix(name) == ".target" or unit.startswith(APART):
+            continue
+        if f"\nPartOf={ALL}\n" not in text:
+            findings.append(Finding(name, 1, f"it does not end with its office: PartOf={ALL}"))
+        wanted = re.search(r"^WantedBy=(.*)$", text, re.M)
+        if wanted and ALL not in wanted[1].split():
+            findings.append(Finding(name, line_of_match(text, wanted), f"it does not start with its office: {ALL}"))
+    return findings
+
+
 def verified(names: list[str]) -> list[Finding]:
     """Has systemd-analyze verify all units, those with @ as an instance, and reports what it finds in these files."""
     need("systemd-analyze")
@@ -81,7 +101,8 @@ def verified(names: list[str]) -> list[Finding]:
             findings.append(Finding(ours.get(own, own), 1, unit["text"]))
         elif line.strip() and not unit:
             findings.append(Finding(names[0], 1, line.strip()))
-    return [item for item in findings if item.file in names] + named_programs([name for name in names if is_unit(name)])
+    units = [name for name in names if is_unit(name)]
+    return [item for item in findings if item.file in names] + named_programs(units) + parted(units)
 
 
 def exposed(names: list[str]) -> list[Finding]:

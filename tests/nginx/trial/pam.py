@@ -3,12 +3,14 @@ import pathlib
 import shutil
 
 from kit.judging import judge, same
+from kit.waiting import comes
 from trial import place
 from trial.place import NAMES, PASSWORD, ask, post, run
 
 MODULE = pathlib.Path("/usr/lib/nginx/modules/ngx_http_auth_pam_module.so")
 CONFIGURED = ("/etc/nginx/office/server.conf", "/etc/nginx/office/pam.conf")
 CALLS = pathlib.Path("/run/pam-calls")
+LOG, MARK, REQUESTS = pathlib.Path("/var/log/nginx/office.access.log"), "before-the-guesses", 6
 CHECK = pathlib.Path("/run/pam-check")
 SERVICE = "auth required pam_exec.so expose_authtok quiet /run/pam-check\naccount required pam_permit.so\n"
 SCRIPT = f"""#!/bin/sh
@@ -60,20 +62,28 @@ def passwords(folder: str) -> None:
     place.reload()
 
 
+def logged() -> list[str]:
+    """Returns the whole lines of nginx's log."""
+    return LOG.read_text().rpartition("\n")[0].splitlines()
+
+
 def guesses(folder: str) -> None:
     """fail2ban's filter counts wrong passwords, and nothing else of the log."""
     if shutil.which("fail2ban-regex") is None:
         print("not run here, without fail2ban: its filter")
         return
-    log = pathlib.Path("/var/log/nginx/office.access.log")
-    begin = len(log.read_text().splitlines())
+    # nginx writes a line behind its answer
+    ask("GET", f"{folder}records/1", fields={"User-Agent": MARK})
+    comes(lambda: any(MARK in line for line in logged()))
+    begin = len(logged())
     ask("GET", f"{folder}records/1", name=None)
     ask("GET", f"{folder}records/1")
     ask("GET", f"{folder}records/1", fields={"User-Agent": 'x" 401 0 "y'})
     for name in ("registrar", "a b", 'c" 200 0'):
         ask("GET", f"{folder}records/1", name=name, password="wrong")
+    comes(lambda: len(logged()) >= begin + REQUESTS)
     new = pathlib.Path("/run/guesses")
-    new.write_text("\n".join(log.read_text().splitlines()[begin:]) + "\n")
+    new.write_text("\n".join(logged()[begin:]) + "\n")
     done = run(f"fail2ban-regex {new} deploy/nginx/fail2ban/filter.d/office.conf")
     judge("fail2ban counts the three wrong passwords", "Lines: 6 lines, 0 ignored, 3 matched, 3 missed" in done.stdout,
           done.stdout[-700:])

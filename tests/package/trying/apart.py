@@ -9,12 +9,12 @@ if TYPE_CHECKING:
     from trying.booted import Booted
 
 FOLDERS = ["/var/lib/office", "/var/lib/office-backups", "/var/lib/office-catalogues", "/var/lib/office-certificates",
-           "/var/lib/office-encrypted", "/var/lib/office-gate", "/var/lib/office-member", "/var/lib/office-registers",
+           "/var/lib/office-encrypted", "/var/lib/office-gate", "/var/lib/office-intake", "/var/lib/office-member", "/var/lib/office-registers",
            "/var/lib/office-seals", "/var/lib/office-vaults", "/var/lib/office-vault-backups", "/var/lib/office-yearend",
            "/var/cache/office-catalogue", "/var/cache/private/office-journal-check"]
 JOURNAL = "/var/log/office/NAME.journal"
 KEYS = ["/etc/office/NAME.key", "/etc/office/NAME.token", "/etc/office/NAME.access", "/etc/office/NAME.withdrawn",
-        "/etc/office/NAME.recipients", "/etc/office/NAME.tsa.pem",
+        "/etc/office/NAME.recipients", "/etc/office/NAME.tsa.pem", "/etc/office/NAME.intake-login",
         JOURNAL, "/etc/nginx/office/gate_tokens.conf"]
 # what a unit sees of each office
 OF_EACH = {"KEYS": KEYS, "JOURNALS": [JOURNAL]}
@@ -30,6 +30,7 @@ SEES = {
     "office-failed": [],
     # its group may read the tokens of the gates, and journals lie in one folder
     "office-gate": ["office-gate", "office-catalogues", "KEYS"],
+    "office-intake": ["office-intake"],
     "office-journal-check": ["office-gate", "office-backups", "office-journal-check", "JOURNALS"],
     "office-overdue": ["office", "office-registers", "gate_tokens.conf"],
     "office-overdue-mail": ["office-registers"],
@@ -64,7 +65,7 @@ ExecReload=
 
 def planted() -> str:
     """The commands that put a file into each folder, of two offices."""
-    commands = ["mkdir -p /etc/nginx/office /var/log/office; touch /etc/office/city.mail /etc/office/city.stamp"]
+    commands = ["mkdir -p /etc/nginx/office /var/log/office; touch /etc/office/city.mail /etc/office/city.stamp /etc/office/city.intake"]
     for name in ("city", "court"):
         commands += [f"mkdir -p {it}/{name}; touch {it}/{name}/planted; chmod -R a+rX {it}" for it in FOLDERS]
         commands += [f"touch {it.replace('NAME', name)}; chmod a+r {it.replace('NAME', name)}" for it in KEYS]
@@ -104,14 +105,14 @@ def judge_apart(booted: "Booted") -> None:
     judge("systemd: each unit has a line that says what it sees", set(units) <= set(SEES), sorted(set(units) - set(SEES)))
     for unit in [it for it in units if it in SEES]:
         # what names ports and addresses is no secret
-        seen = {it for it in looked(booted, unit) if not re.fullmatch(r"/etc/office/\w+\.(conf|mail|stamp)", it)}
+        seen = {it for it in looked(booted, unit) if not re.fullmatch(r"/etc/office/\w+\.(conf|mail|stamp|intake)", it)}
         if unit == "office-gate":
             # tokens that only nginx's master reads are hidden
             judge(f"systemd: {unit}@ sees its own office, and journals", seen == of(unit) - {KEYS[-1]}, sorted(seen ^ of(unit)))
         else:
             judge(f"systemd: {unit}@ sees what it needs of its office, and nothing of another", seen == of(unit),
                   sorted(seen ^ of(unit)))
-    booted.run("; ".join(f"rm -f {it}/*/planted" for it in FOLDERS) + "; rm -f /etc/office/city.stamp; "
+    booted.run("; ".join(f"rm -f {it}/*/planted" for it in FOLDERS) + "; rm -f /etc/office/city.stamp /etc/office/city.intake; "
                "rm -rf /var/lib/office*/court /var/cache/private/office-journal-check; chmod 700 /var/cache/private; "
                "rm -f "
                + " ".join(it.replace("NAME", name) for it in KEYS for name in ("city", "court")))

@@ -59,7 +59,7 @@ def judge_replaced(machine: Machine) -> None:
     done = machine.run("sed -i 's/days_ahead 1/days_ahead 2/' /etc/nginx/office/http.conf; "
                        "sed -i 's/localhost/records.city.example/' /etc/nginx/sites-available/office; office-copies; echo $?")
     judge("a change is named, the name of the machine is none", named(done.out) == {"/etc/nginx/office/http.conf": "changed"}
-          and done.out.endswith("0\n") and "diff /usr/share/doc/office/service/nginx/http.conf" in done.out, done)
+          and done.out.endswith("0\n") and "diff /usr/share/office/nginx/http.conf" in done.out, done)
     done = machine.run("""sed -i 's/, "office-yearend" }/, "office-yearend", "office-gate" }/' /etc/office.nft; office-copies""")
     judge("nor is what ACCESS.md puts into the rules", "/etc/office.nft" not in done.out, done)
 

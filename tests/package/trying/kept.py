@@ -1,4 +1,4 @@
-"""What is kept beside an office: encrypted copies, seals with their stamps, and a gate's journal, by units at work."""
+"""What comes to an office and is kept beside it: files, encrypted copies, seals, a gate's journal, by units at work."""
 import datetime
 import json
 import pathlib
@@ -111,6 +111,23 @@ def judge_stamped(booted: "Booted") -> None:
     booted.run("systemctl stop authority")
 
 
+def judge_taken_in(booted: "Booted") -> None:
+    """What came to a folder is filed, and what is half goes to be looked at, by a user who is of no group of the office."""
+    place = "/var/lib/office-intake/town"
+    booted.run("printf 'ROOT=SCANS\\nCLASS=FIN-INV\\nZONE=UTC\\nOFFICE=http://127.0.0.1:8084\\nWORDS=--changed --settle 0\\n' "
+               ">/etc/office/town.intake; install -m 600 /dev/null /etc/office/town.intake-login; "
+               "echo intake:secret >/etc/office/town.intake-login; "
+               f"install -d -o office-intake -g office-intake -m 710 {place}; install -d -g office-intake -m 2770 {place}/in; "
+               f"echo whole >{place}/in/scan.txt; sleep 1")
+    judge_started(booted, "a file that came is filed", "office-intake@town", ("success 0", "scan.txt: number "))
+    booted.run(f"printf %%PDF-1.4 >{place}/in/half.pdf")
+    judge_started(booted, "one that is half is named", "office-intake@town", ("exit-code 1", "to look at: 1 files"))
+    judge_reported(booted, "office-intake@town")
+    done = booted.run(f"cd {place}; stat -c '%a %n' done look; find in done look -type f | sort")
+    judge("systemd: each file is where it belongs", done.out == (
+        "700 done\n700 look\ndone/scan.txt\nlook/half.pdf\nlook/half.pdf.why.txt\n"), done)
+
+
 def judge_journal(booted: "Booted") -> None:
     """The year's end acts through the gate, and the nightly check finds its act between two copies."""
     done = booted.run(" && ".join(GATE))
@@ -137,5 +154,6 @@ def judge_kept(booted: "Booted") -> None:
     judge_encrypted(booted)
     judge_sealed(booted)
     judge_journal(booted)
+    judge_taken_in(booted)
     booted.run("systemctl stop 'office*@town*'; systemctl reset-failed 'office*@town*'; rm -rf /var/lib/office*/town "
                f"/etc/office/town.* {JOURNAL}")

@@ -16,7 +16,7 @@ SERVICE = (f"rm -f /tmp/line; {AS_OFFICE} office serve {CITY} 8081 100 >/tmp/lin
 ASKED = ("exec 3<>/dev/tcp/127.0.0.1/8081; printf 'GET /due/0001-01-01 HTTP/1.0\\r\\n\\r\\n' >&3; tail -n 1 <&3; ")
 STAYS = ("/var/lib/office", "/var/lib/office-backups", "/var/lib/office-encrypted", "/var/lib/office-registers",
          "/var/lib/office-catalogues", "/var/lib/office-vaults", "/var/lib/office-vault-backups", "/var/lib/office-gate",
-         "/var/lib/office-yearend", "/var/log/office", "/var/cache/office-catalogue",
+         "/var/lib/office-yearend", "/var/lib/office-intake", "/var/lib/office-setup", "/var/log/office", "/var/cache/office-catalogue",
          "/var/cache/office-journal-check", "/etc/office")
 SUMS = "find /var/lib/office /var/lib/office-backups /etc/office -type f -exec sha256sum {} + | sort"
 UNIT = "/etc/systemd/system/multi-user.target.wants/office@city.service"
@@ -46,7 +46,8 @@ def judge_installed(machine: Machine, file: pathlib.Path) -> None:
     judge("once that person has another name it is installed", done.status == 0, done)
     machine.run("userdel clerk")
     says("dpkg finds each file as it was packed", machine, "dpkg --verify office", "")
-    done = machine.run("for it in office-mail office-seal office-gate office-vault office-certificates office-yearend; do "
+    done = machine.run("for it in office-mail office-seal office-gate office-vault office-certificates office-yearend "
+                       "office-sign-in office-intake; do "
                        "id -u $it || exit 1; done; getent group office-read")
     judge("so are a user for each service, and the group that asks for readings", done.status == 0, done)
     says("the user office is there, without a home or a shell", machine, "getent passwd office | cut -d: -f6-",
