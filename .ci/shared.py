@@ -1,6 +1,7 @@
 """What a build of the program and a preview share: where things are, which crate names which, and lines that say so."""
 import contextlib
 import fcntl
+import os
 import pathlib
 import signal
 import sys
@@ -73,3 +74,17 @@ def end_when_asked() -> None:
     """Has `Stopped` raised when somebody asks this process to end."""
     for number in ASKS:
         signal.signal(number, stop)
+
+
+@contextlib.contextmanager
+def undisturbed() -> Iterator[None]:
+    """Holds an end back that somebody asks for meanwhile, so that a command that is being started can be ended too."""
+    asked: list[int] = []
+    before = {number: signal.signal(number, lambda it, _: asked.append(it)) for number in ASKS}
+    try:
+        yield
+    finally:
+        for number, handler in before.items():
+            signal.signal(number, handler)
+    if asked:
+        os.kill(os.getpid(), asked[0])
