@@ -19,11 +19,12 @@ values_of value.Missing = missing
 values_of (value.One bytes) = one bytes.items
 values_of value.Many = many
 
--- among these fields: the token, the name that signed in, and the day
+-- among these fields: the token, the name that signed in, the day, and the address that the request came from
 pub record AreProxyLines (fields : List (List ℕ × List ℕ)) (lines : ProxyLines) : Type 0 where
   pub token : values_of lines.token ≡ found_named (codes "office-token") fields
   pub name : values_of lines.name ≡ found_named (codes "office-name") fields
   pub day : values_of lines.day ≡ found_named (codes "office-day") fields
+  pub from : values_of lines.from ≡ found_named (codes "office-from") fields
 
 -- of a head and the bytes after it: what they ask for, and what the proxy states
 pub record IsProxiedFrom (h : RequestHead) (rest : List ℕ) (it : ProxiedRequest) : Type 0 where

@@ -21,7 +21,7 @@ pub enum FieldValue {
     Many,
 }
 
-/// The field lines by which a proxy states who signed in, and on which day.
+/// The field lines by which a proxy states who signed in, on which day, and from where.
 #[derive(Drop)]
 pub struct ProxyLines {
     /// `Office-Token`: the secret that the proxy and the office share.
@@ -30,6 +30,8 @@ pub struct ProxyLines {
     pub name: FieldValue,
     /// `Office-Day`: the day of the proxy's clock, in the time zone of the office.
     pub day: FieldValue,
+    /// `Office-From`: the address that the request came from.
+    pub from: FieldValue,
 }
 
 /// Copies the value out of the buffer.
@@ -53,6 +55,7 @@ fn lines_of(alloc: Global, buf: &[u8], headers: &[HeaderSpan]) -> Result<ProxyLi
         token: copied(alloc, buf, find_named(buf, headers, b"office-token"))?,
         name: copied(alloc, buf, find_named(buf, headers, b"office-name"))?,
         day: copied(alloc, buf, find_named(buf, headers, b"office-day"))?,
+        from: copied(alloc, buf, find_named(buf, headers, b"office-from"))?,
     })
 }
 
