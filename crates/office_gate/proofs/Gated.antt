@@ -1,5 +1,5 @@
 -- How serving the names that a proxy states goes on, and which settings are in force.
-use Rattle.std.proofs.Common.{◌≡◌, ◌⊎◌, inl, inr, ℕ, zero, suc, ◌+◌, Bool, true, false, ◌||◌, List, Option, Result, Ok, Err, refl, sym, ap, subst, ◌∙◌}
+use Rattle.std.proofs.Common.{◌≡◌, inl, inr, ℕ, zero, suc, ◌+◌, Bool, true, false, ◌||◌, List, Option, Result, Ok, Err, refl, sym, ap, subst}
 use Rattle.std.specs.Prelude.{IfErr, IfOk}
 use native.Mathlib.Numerals.{unary_clauses}
 use Rattle.sqlite_trees.specs.declared.store.Store.{Ghosts}
@@ -8,13 +8,12 @@ use Rattle.office_base.specs.declared.output.Io.{Io}
 use Rattle.office_base.specs.declared.stop.Stop.{Stop}
 use Rattle.office_desk.specs.Desk.{DeskState}
 use Rattle.office_gate.specs.Exchanges.{IsStatedNext, IsVisitServed, LeavesVisited}
-use Rattle.office_gate.specs.InForce.{AreInForce, IsInForceSince, Renews}
+use Rattle.office_gate.specs.InForce.{AreInForce, IsInForceSince}
 use Rattle.office_gate.specs.Sessions.{GateTurn, GateTurns, LeavesGated}
 use Rattle.office_gate.specs.declared.access.Access.{Access}
 use Rattle.office_gate.specs.declared.access.AccessError.{AccessError}
 use Rattle.office_gate.specs.declared.access.AccessError.TheVariants as error
 use Rattle.office_gate.specs.declared.gate.Gate.{Gate}
-use Rattle.office_rules.specs.State.{State}
 use Rattle.office_wire.specs.Connections.{Ends, IsVisitedBy, TurnBy, TurnsBy, has_failed}
 use Rattle.office_wire.specs.Serving.{ReportsUnavailable, Sends}
 use Rattle.office_wire.specs.declared.exchange.OutgoingReply.{OutgoingReply}

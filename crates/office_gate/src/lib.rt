@@ -7,7 +7,7 @@
 //! [`serve_visit`] reads one request with what a proxy states, the secret that it shares with the
 //! office, the name that signed in and the day, as [`Gate::visitor`] reads these, and answers it.
 //! [`serve_visits`] serves one connection after another, each under the settings of its moment, which
-//! an [`Access`] reads anew.
+//! an [`Access`] reads anew. A [`Gatekeeper`] is whoever does that: an `Access` alone, or with a journal.
 #![tactic(auto)]
 
 mod access;
@@ -16,6 +16,7 @@ mod answers;
 mod denials;
 mod exchange;
 mod gate;
+mod gatekeeper;
 pub mod laws;
 mod lists;
 mod readings;
@@ -28,5 +29,6 @@ pub use answers::answer_for;
 pub use denials::{denial_reply, denied_reply, token_reply};
 pub use exchange::{answer_visit, serve_visit};
 pub use gate::Gate;
+pub use gatekeeper::Gatekeeper;
 pub use secret::secret_in;
 pub use sessions::serve_visits;
