@@ -33,8 +33,8 @@ MORE = [
     "./office resume first.db", "./office apply letters.db none.json", "./office apply letters.db examples/plan/usual.plan",
     "./office serve first.db 8080 2 & until curl --silent --fail --output /dev/null http://127.0.0.1:8080/x || [ $? = 22 ]; "
     "do sleep 0.1; done; curl --silent http://127.0.0.1:8080/records/1/content; wait", "./office serve first.db 0 1",
-    "./office gate first.db 8080 1 none.access none.token", "./office gate first.db 0 1 first.access first.token",
-    "./office gate first.db 8080 2 first.access first.token & until curl --silent --fail --output /dev/null "
+    "./office gate first.db 8080 1 none.access none.token -", "./office gate first.db 0 1 first.access first.token -",
+    "./office gate first.db 8080 2 first.access first.token - & until curl --silent --fail --output /dev/null "
     "http://127.0.0.1:8080/x || [ $? = 22 ]; do sleep 0.1; done; curl --silent --header 'Office-Token: " + SECRET +
     "' --header 'Office-Name: reader' --header 'Office-Day: 2026-06-01' http://127.0.0.1:8080/records/1; wait",
 ]

@@ -29,7 +29,7 @@ pub(crate) const ROWS: &str = "
     words office overdue office.db 0001-01-01 0 = overdue 0001-01-01 0 office.db
     words office overdue office.db 2999-12-31 03650 = overdue 2999-12-31 3650 office.db
     words office serve office.db 65535 1000000 = serve 65535 1000000 office.db
-    words office gate office.db 8080 3 city.access token = gate 8080 3 office.db city.access token
+    words office gate office.db 8080 3 city.access token city.journal = gate 8080 3 office.db city.access token city.journal
 
     # words that are no command
     words office due years 1 none = MissingRequiredArgument
@@ -91,9 +91,9 @@ pub(crate) const ROWS: &str = "
     words office serve office.db 80 +1 = refused 2
     words office serve office.db 0 many = refused 2
     words office serve office.db http 0 = refused 2
-    words office gate office.db 0 1 city.access token = refused 3
-    words office gate office.db 80 many city.access token = refused 2
-    words office gate office.db 80 1 city.access = MissingRequiredArgument
+    words office gate office.db 0 1 city.access token - = refused 3
+    words office gate office.db 80 many city.access token - = refused 2
+    words office gate office.db 80 1 city.access token = MissingRequiredArgument
 
     # disks
     disk OFFICE_DISK = Any
@@ -172,10 +172,11 @@ fn report_order(order: &Order<'_>, out: &mut Vec<u8>) -> Option<()> {
             count,
             access,
             token,
+            journal,
         } => {
             write!(out, "gate {port} {count}")
                 .ok()
-                .and(push_all(out, &["", file, access, token]))
+                .and(push_all(out, &["", file, access, token, journal]))
         }
         Order::Nothing => None,
     }

@@ -73,12 +73,12 @@ serve_app =
     with_rule (with_rule (with_rule (new_app (codes "serve"))
     (operand (codes "FILE"))) (operand (codes "PORT"))) (operand (codes "COUNT"))
 
--- `gate FILE PORT COUNT ACCESS TOKEN`
+-- `gate FILE PORT COUNT ACCESS TOKEN JOURNAL`
 abbrev pub gate_app : App
 gate_app =
-    with_rule (with_rule (with_rule (with_rule (with_rule (new_app (codes "gate"))
+    with_rule (with_rule (with_rule (with_rule (with_rule (with_rule (new_app (codes "gate"))
     (operand (codes "FILE"))) (operand (codes "PORT"))) (operand (codes "COUNT")))
-    (operand (codes "ACCESS"))) (operand (codes "TOKEN"))
+    (operand (codes "ACCESS"))) (operand (codes "TOKEN"))) (operand (codes "JOURNAL"))
 
 -- a command that must have one of its subcommands, and shows its help where it has no word at all
 abbrev pub with_commands : App → App
@@ -135,7 +135,7 @@ pub data CommandLine : Type 0 where
   export_line : Text → Text → CommandLine
   overdue_line : Text → Text → Text → CommandLine
   serve_line : Text → Text → Text → CommandLine
-  gate_line : Text → Text → Text → Text → Text → CommandLine
+  gate_line : Text → Text → Text → Text → Text → Text → CommandLine
 
 abbrev pub line_of : Words → CommandLine
 line_of (Due unit count offset day) = due_line unit.now count.now offset.now day.now
@@ -148,7 +148,8 @@ line_of (Import file day csv) = import_line file.now day.now csv.now
 line_of (Export file register) = export_line file.now register.now
 line_of (Overdue file day count) = overdue_line file.now day.now count.now
 line_of (Serve file port count) = serve_line file.now port.now count.now
-line_of (Gate file port count access token) = gate_line file.now port.now count.now access.now token.now
+line_of (Gate file port count access token journal) =
+    gate_line file.now port.now count.now access.now token.now journal.now
 line_of Nothing = no_line
 
 abbrev pub due_in : List Row → CommandLine
@@ -189,7 +190,7 @@ serve_in rows =
 abbrev pub gate_in : List Row → CommandLine
 gate_in rows =
     gate_line (text_of (codes "FILE") rows) (text_of (codes "PORT") rows) (text_of (codes "COUNT") rows)
-    (text_of (codes "ACCESS") rows) (text_of (codes "TOKEN") rows)
+    (text_of (codes "ACCESS") rows) (text_of (codes "TOKEN") rows) (text_of (codes "JOURNAL") rows)
 
 -- the command line of a subcommand that answers requests
 abbrev pub service_in : Text → List Row → CommandLine

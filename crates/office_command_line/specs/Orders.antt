@@ -27,7 +27,7 @@ pub data Command : Type 0 where
   export : Text → Register → Command
   overdue : Text → ℤ → ℕ → Command
   serve : Text → ℕ → ℕ → Command
-  gate : Text → ℕ → ℕ → Text → Text → Command
+  gate : Text → ℕ → ℕ → Text → Text → Text → Command
 
 abbrev pub command : Order → Command
 command (Due unit count offset day) = due unit.now count.now offset.now day.now
@@ -40,7 +40,8 @@ command (Import file day csv) = import file.now day csv.now
 command (Export file register) = export file.now register
 command (Overdue file day days) = overdue file.now day days
 command (Serve file port count) = serve file.now port count
-command (Gate file port count access token) = gate file.now port count access.now token.now
+command (Gate file port count access token journal) =
+    gate file.now port count access.now token.now journal.now
 command Nothing = nothing
 
 -- the certificate of the run with that number, where a text was read as one
@@ -75,10 +76,10 @@ abbrev pub service_of : Text → Result (ℕ × ℕ) Refusal → Result Command 
 service_of file (Ok p) = Ok (serve file p.0 p.1)
 service_of file (Err refusal) = Err refusal
 
--- the same for the names that a proxy states, by the settings in a file and the secret in another
-abbrev pub gate_of : Text → Text → Text → Result (ℕ × ℕ) Refusal → Result Command Refusal
-gate_of file access token (Ok p) = Ok (gate file p.0 p.1 access token)
-gate_of file access token (Err refusal) = Err refusal
+-- the same for the names that a proxy states, by the settings in a file and the secret in another, with a journal
+abbrev pub gate_of : Text → Text → Text → Text → Result (ℕ × ℕ) Refusal → Result Command Refusal
+gate_of file access token journal (Ok p) = Ok (gate file p.0 p.1 access token journal)
+gate_of file access token journal (Err refusal) = Err refusal
 
 -- the command of a command line, or why an operand is refused
 abbrev pub command_read : CommandLine → Result Command Refusal
@@ -93,4 +94,5 @@ command_read (import_line file day csv) = importation_of file csv (day_named day
 command_read (export_line file text) = exportation_of file (register_named text)
 command_read (overdue_line file day count) = overdue_of file (day_named day) (confirm_days_named count)
 command_read (serve_line file port count) = service_of file (service_numbers port count)
-command_read (gate_line file port count access token) = gate_of file access token (service_numbers port count)
+command_read (gate_line file port count access token journal) =
+    gate_of file access token journal (service_numbers port count)

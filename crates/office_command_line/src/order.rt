@@ -65,13 +65,15 @@ pub enum Order<'a> {
         count: u32,
     },
     /// Answers requests as [`Order::Serve`] does, as far as the name that a proxy states may have
-    /// them by the settings in the file `access`; the file `token` has the secret of the proxy.
+    /// them by the settings in the file `access`; the file `token` has the secret of the proxy. The
+    /// lines of the journal go into the file `journal`, or nowhere if that is `-`.
     Gate {
         file: &'a str,
         port: u16,
         count: u32,
         access: &'a str,
         token: &'a str,
+        journal: &'a str,
     },
     /// No command.
     Nothing,
@@ -131,6 +133,7 @@ pub fn order_of<'a>(words: Words<'a>) -> Result<Order<'a>, Refusal>
             count,
             access,
             token,
+            journal,
         } => match read_service(port, count) {
             Ok((port, count)) => Ok(Order::Gate {
                 file,
@@ -138,6 +141,7 @@ pub fn order_of<'a>(words: Words<'a>) -> Result<Order<'a>, Refusal>
                 count,
                 access,
                 token,
+                journal,
             }),
             Err(refusal) => Err(refusal),
         },

@@ -59,6 +59,7 @@ pub enum Words<'a> {
         count: &'a str,
         access: &'a str,
         token: &'a str,
+        journal: &'a str,
     },
     /// No command: `read_words` never gives it.
     Nothing,
@@ -173,6 +174,7 @@ fn gate_words<'a>(matches: &ArgMatches<'a>) -> Words<'a>
         count,
         access: operand(matches, "ACCESS"),
         token: operand(matches, "TOKEN"),
+        journal: operand(matches, "JOURNAL"),
     }
 }
 
