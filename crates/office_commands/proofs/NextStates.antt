@@ -400,7 +400,7 @@ module _ (stay : StaySound) (ends : IsEnded) (At : Trees → State → Type 0) (
   command_so (command.due unit count offset day) text written after exit it = same_held (IsUntouched written after s) (refl, it.2) it.1
   command_so (command.plan file) text written after exit it = same_held (IsUntouched written after s) (refl, it.2) it.1
   command_so (command.serve file port count) text written after exit it = same_held (IsUntouched written after s) (refl, it.2) it.1
-  command_so (command.gate file port count access token) text written after exit it = same_held (IsUntouched written after s) (refl, it.2) it.1
+  command_so (command.gate file port count access token journal) text written after exit it = same_held (IsUntouched written after s) (refl, it.2) it.1
   command_so (command.init file) text written after exit it = init_left stay ends At office (state g old) (state g new) s sound was at_unopened stops written after exit it
   command_so (command.apply file acts) text written after exit (inl none) = same_held (IsLeftBy (command.apply file acts) text written after exit s) (inl ((refl, none.2), no_text text exit none.0)) none.1
   command_so (command.apply file acts) text written after exit (inr it) = applies_left stay ends At office (state g old) (state g new) s sound was at_unopened stops text written after exit it

@@ -92,7 +92,7 @@ module _ {S : Type 0} (g : Ghosts S) (old new : Held S) (s : State) (on : IsTrue
   command_on (command.due unit count offset day) it = same_on it.1
   command_on (command.plan file) it = same_on it.1
   command_on (command.serve file port count) it = same_on it.1
-  command_on (command.gate file port count access token) it = same_on it.1
+  command_on (command.gate file port count access token journal) it = same_on it.1
   command_on (command.init file) (inl none) = reading_on none
   command_on (command.init file) (inr it) = done_on it.0 it.1
   command_on (command.apply file acts) (inl none) = same_on none.1

@@ -172,7 +172,7 @@ IsLeftBy (command.overdue file day n) text written after exit s u =
 IsLeftBy (command.certificate file run) text written after exit s u =
     ReadsAt (Certifies s.office run written after exit) written after exit s u
 IsLeftBy (command.serve file port count) text written after exit s u = IsUntouched written after s u
-IsLeftBy (command.gate file port count access token) text written after exit s u = IsUntouched written after s u
+IsLeftBy (command.gate file port count access token journal) text written after exit s u = IsUntouched written after s u
 IsLeftBy (command.plan file) text written after exit s u = IsUntouched written after s u
 IsLeftBy (command.due unit count offset day) text written after exit s u = IsUntouched written after s u
 IsLeftBy command.nothing text written after exit s u = IsUntouched written after s u

@@ -53,7 +53,7 @@ abbrev pub ServiceEnds : {S : Type 0} → Ghosts S → ℕ → ℕ → Held S �
 ServiceEnds g port count old new written after exit =
     ServiceEndsBy (LeavesServed g) g port count old new written after exit
 
--- `gate FILE PORT COUNT ACCESS TOKEN`, with these settings at first
+-- `gate FILE PORT COUNT ACCESS TOKEN JOURNAL`, with these settings at first
 abbrev pub GateEnds : {S : Type 0} → Ghosts S → Settings → ℕ → ℕ → Held S → Held S → Option (List ℕ)
     → Option (List ℕ) → Exit → Type 0
 GateEnds g first port count old new written after exit =

@@ -14,7 +14,7 @@ use crate::command::report_listening;
 use crate::exit::Exit;
 use crate::office_files::{FilesLeft, Opened, close, law_of_the_last_commit, refuse};
 use office_desk::Desk;
-use office_gate::{Access, SettingsText, serve_visits};
+use office_gate::Gatekeeper;
 use office_store::Fault;
 use office_wire::{Routes, Serving, Sockets};
 use sqlite::{Alter, Connection, FileFrom, Start};
@@ -22,20 +22,20 @@ use std::io::{Read, Write};
 use std::net::{OpenListener, OpenStream};
 
 /// Reports where an open office is served, and serves that many connections.
-fn gate_at<L: OpenListener, T: SettingsText, W: Write, E: Write, S: Alter>(
+fn gate_at<L: OpenListener, G: Gatekeeper, W: Write, E: Write, S: Alter>(
     rt: &HostRuntime,
     routes: &Routes,
     listener: &L,
     port: u16,
     count: u32,
-    access: &mut Access<T>,
+    keeper: &mut G,
     desk: &mut Desk<S>,
     out: &mut W,
     err: &mut E,
 ) -> Exit
 where
     L::Stream: Read + Write + OpenStream,
-    ensures { ServesAtBy (LeavesGated S.Store access.old.gate.policy) S.Store port count desk.old
+    ensures { ServesAtBy (LeavesGated S.Store (G.settings keeper.old)) S.Store port count desk.old
         desk.new (W.contents out.old) (W.contents out.new) result }
 {
     match report_listening(port, out) {
@@ -48,20 +48,20 @@ where
                 err,
             };
             let serving = Serving { alloc, routes };
-            Exit::from(serve_visits(serving, &mut sockets, access, count, desk))
+            Exit::from(keeper.serve(serving, &mut sockets, count, desk))
         }
         Err(_) => Exit::File,
     }
 }
 
-/// `gate FILE PORT COUNT ACCESS TOKEN` over a connection to the file.
-fn gate_on<L: OpenListener, T: SettingsText, W: Write, E: Write, S: Alter>(
+/// `gate FILE PORT COUNT ACCESS TOKEN JOURNAL` over a connection to the file.
+fn gate_on<L: OpenListener, G: Gatekeeper, W: Write, E: Write, S: Alter>(
     rt: &HostRuntime,
     routes: &Routes,
     listener: &L,
     port: u16,
     count: u32,
-    access: &mut Access<T>,
+    keeper: &mut G,
     conn: Connection<S>,
     out: &mut W,
     err: &mut E,
@@ -69,7 +69,7 @@ fn gate_on<L: OpenListener, T: SettingsText, W: Write, E: Write, S: Alter>(
 where
     L::Stream: Read + Write + OpenStream,
     requires { conn.in_transaction ≡ false }
-    ensures ends { GateEnds S.Store access.old.gate.policy port count conn result.1
+    ensures ends { GateEnds S.Store (G.settings keeper.old) port count conn result.1
         (W.contents out.old) (W.contents out.new) result.0 }
     ensures clean { HasCleanDisk (state S.Store result.1) → HasCleanDisk (state S.Store conn) }
     ensures shield { (state S.Store conn).IsShielded → (state S.Store result.1).IsShielded }
@@ -77,7 +77,7 @@ where
     match Desk::open(rt.alloc(), conn) {
         Ok(mut desk) => {
             let exit = gate_at(
-                rt, routes, listener, port, count, access, &mut desk, out, err,
+                rt, routes, listener, port, count, keeper, &mut desk, out, err,
             );
             (exit, desk.close())
         }
@@ -86,15 +86,14 @@ where
 }
 
 /// Serves the office in a file as [`crate::serve_opened`] does, as far as the name that a proxy states
-/// may have it by the settings in force. Before each request is read, the text of the settings is
-/// read anew.
-pub fn gate_opened<L: OpenListener, T: SettingsText, S: Start, W: Write, E: Write>(
+/// may have it by the settings in force, which the gatekeeper knows.
+pub fn gate_opened<L: OpenListener, G: Gatekeeper, S: Start, W: Write, E: Write>(
     rt: &HostRuntime,
     routes: &Routes,
     listener: &L,
     port: u16,
     count: u32,
-    access: &mut Access<T>,
+    keeper: &mut G,
     opened: Opened<S>,
     out: &mut W,
     err: &mut E,
@@ -107,13 +106,13 @@ where
         × (result.1 ≡ files.Unopened e.1) × (W.contents out.new ≡ W.contents out.old)) }
 
     // Over the connection the office is served, and it is closed.
-    ensures serves { GatesInFiles result.1 (image_at S.Start) opened access.old.gate.policy port
+    ensures serves { GatesInFiles result.1 (image_at S.Start) opened (G.settings keeper.old) port
         count (W.contents out.old) (W.contents out.new) result.0 }
 {
     match opened {
         Ok(conn) => {
             law_of_the_last_commit(&conn);
-            let (exit, conn) = gate_on(rt, routes, listener, port, count, access, conn, out, err);
+            let (exit, conn) = gate_on(rt, routes, listener, port, count, keeper, conn, out, err);
             law_of_the_last_commit(&conn);
             (exit, close(conn))
         }
