@@ -7,9 +7,9 @@ use Rattle.office_gate.specs.Visitors.{visitor_of}
 use Rattle.office_http.specs.Receiving.{OfficeRequest, acts, cut, refused, requested}
 use Rattle.office_http.specs.Replies.{Response}
 use Rattle.office_http.specs.declared.path_request.PathRequest.TheVariants as path
-use Rattle.office_journal.specs.declared.journal.Journal.{Journal}
 use Rattle.office_journal.specs.declared.unwritten.Unwritten.{Unwritten}
 use Rattle.office_json.specs.Lists.{NoActs, acts_in}
+use Rattle.office_noting.specs.Ledgers.{Ledger}
 use Rattle.office_noting.specs.Noted.{IsNotedFirst, IsNotedReply, NotesList, ServesIfNoted}
 use Rattle.office_noting.specs.Replies.{reply_after, unnoted_response}
 use Rattle.office_noting.specs.declared.visit.Visit.{Visit}
@@ -42,28 +42,28 @@ module _ {W S : Type 0} (contents : W → Option (List ℕ)) (g : Ghosts S) (vis
   after_noting done (Ok line) is = is
   after_noting done (Err why) is = unnoted_unavailable
 
-  module _ (request : OfficeRequest) (all : Option (List Act)) (r : Response) (journal after : Journal W) where
-    first_by : (result : Result ℕ Unwritten) (mid : Journal W) → ServesIfNoted contents g visit request result r mid after old new → Left r
+  module _ (request : OfficeRequest) (all : Option (List Act)) (r : Response) (ledger after : Ledger W) where
+    first_by : (result : Result ℕ Unwritten) (mid : Ledger W) → ServesIfNoted contents g visit request result r mid after old new → Left r
     first_by (Err why) mid it = stays r it.2
     first_by (Ok line) mid it =
         subst Left (sym it.replied) (served request it.done (reply_after it.done it.result) (after_noting it.done it.result) it.served)
 
-    first : IsNotedFirst contents g visit request all r journal after old new → Left r
+    first : IsNotedFirst contents g visit request all r ledger after old new → Left r
     first it = first_by it.result it.asked it.serves
 
-  listed : (body : List ℕ) (read : Result (List Act) NoActs) (r : Response) (journal after : Journal W)
-      → NotesList contents g visit body read r journal after old new → Left r
-  listed body (Err why) r journal after it = stays r it.2
-  listed body (Ok all) r journal after (inl it) = stays r it.2
-  listed body (Ok all) r journal after (inr it) = first (acts body) (Some all) r journal after it
+  listed : (body : List ℕ) (read : Result (List Act) NoActs) (r : Response) (ledger after : Ledger W)
+      → NotesList contents g visit body read r ledger after old new → Left r
+  listed body (Err why) r ledger after it = stays r it.2
+  listed body (Ok all) r ledger after (inl it) = stays r it.2
+  listed body (Ok all) r ledger after (inr it) = first (acts body) (Some all) r ledger after it
 
-  pub left : (request : OfficeRequest) (r : Response) (journal after : Journal W) → IsNotedReply contents g visit request r journal after old new → Left r
-  left (acts body) r journal after it = listed body (acts_in body) r journal after it
-  left (refused check) r journal after it = served (refused check) r r (λ is. is) it.0
-  left cut r journal after it = served cut r r (λ is. is) it.0
-  left (requested path.Resume) r journal after it = first (requested path.Resume) None r journal after it
-  left (requested (path.Record n)) r journal after it = served (requested (path.Record n)) r r (λ is. is) it.0
-  left (requested (path.Content n)) r journal after it = served (requested (path.Content n)) r r (λ is. is) it.0
-  left (requested (path.Due day)) r journal after it = served (requested (path.Due day)) r r (λ is. is) it.0
-  left (requested (path.Overdue day count)) r journal after it = served (requested (path.Overdue day count)) r r (λ is. is) it.0
-  left (requested (path.Certificate run)) r journal after it = served (requested (path.Certificate run)) r r (λ is. is) it.0
+  pub left : (request : OfficeRequest) (r : Response) (ledger after : Ledger W) → IsNotedReply contents g visit request r ledger after old new → Left r
+  left (acts body) r ledger after it = listed body (acts_in body) r ledger after it
+  left (refused check) r ledger after it = served (refused check) r r (λ is. is) it.0
+  left cut r ledger after it = served cut r r (λ is. is) it.0
+  left (requested path.Resume) r ledger after it = first (requested path.Resume) None r ledger after it
+  left (requested (path.Record n)) r ledger after it = served (requested (path.Record n)) r r (λ is. is) it.0
+  left (requested (path.Content n)) r ledger after it = served (requested (path.Content n)) r r (λ is. is) it.0
+  left (requested (path.Due day)) r ledger after it = served (requested (path.Due day)) r r (λ is. is) it.0
+  left (requested (path.Overdue day count)) r ledger after it = served (requested (path.Overdue day count)) r r (λ is. is) it.0
+  left (requested (path.Certificate run)) r ledger after it = served (requested (path.Certificate run)) r r (λ is. is) it.0

@@ -3,3 +3,5 @@ pub mod Done
 pub mod Leaves
 pub mod Lines
 pub mod Listed
+pub mod Moves
+pub mod Turns

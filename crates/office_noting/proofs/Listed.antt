@@ -6,9 +6,9 @@ use Rattle.serde_json.specs.Read.{read}
 use Rattle.sqlite_trees.specs.declared.store.Store.{Ghosts}
 use Rattle.office_desk.specs.Desk.{DeskState}
 use Rattle.office_http.specs.Replies.{Response}
-use Rattle.office_journal.specs.declared.journal.Journal.{Journal}
 use Rattle.office_json.specs.Lists.{NoActs}
 use Rattle.office_notes.specs.Acts.{notes}
+use Rattle.office_noting.specs.Ledgers.{Ledger}
 use Rattle.office_noting.specs.Noted.{IsUnread, NotesList}
 use Rattle.office_noting.specs.Requests.{HasNotes}
 use Rattle.office_noting.specs.declared.visit.Visit.{Visit}
@@ -20,6 +20,6 @@ has_notes all text (Some t) it is = ap read it ∙ is
 
 -- nothing is done or noted
 pub left_out : {W S : Type 0} (contents : W → Option (List ℕ)) (g : Ghosts S) (visit : Visit) (body : List ℕ) (read : Result (List Act) NoActs) (r : Response)
-    (journal : Journal W) (desk : DeskState S) → IsUnread read r → NotesList contents g visit body read r journal journal desk desk
-left_out contents g visit body (Ok all) r journal desk it = inl (it, refl, refl)
-left_out contents g visit body (Err why) r journal desk it = (it, refl, refl)
+    (ledger : Ledger W) (desk : DeskState S) → IsUnread read r → NotesList contents g visit body read r ledger ledger desk desk
+left_out contents g visit body (Ok all) r ledger desk it = inl (it, refl, refl)
+left_out contents g visit body (Err why) r ledger desk it = (it, refl, refl)

@@ -62,8 +62,9 @@ pub(crate) fn note_answered<W: Write, C: Watch>(
     reply: &Reply,
     book: &mut Book<W, C>,
 ) -> Result<u64, Unwritten>
-    ensures { NotesAnswered W.contents (request_of wanted.now) line (response reply.now) result
+    ensures line { NotesAnswered W.contents (request_of wanted.now) line (response reply.now) result
         book.old.journal book.new.journal }
+    ensures named { book.new.named ≡ book.old.named }
 {
     let Ok(moment) = book.watch.moment(alloc) else {
         return Err(Unwritten::Memory);

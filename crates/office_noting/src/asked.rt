@@ -2,7 +2,8 @@
 ghost use Rattle.std.specs.Prelude.{◌≡◌, IsSomeAnd, List, None, Some, ℕ};
 ghost use Rattle.office_http.specs.Receiving.{acts, requested};
 ghost use Rattle.office_http.specs.declared.path_request.PathRequest.TheVariants.{Resume};
-ghost use Rattle.office_noting.specs.Noted.{NotesAsked};
+ghost use Rattle.office_noting.specs.Ledgers.{ledger_of};
+ghost use Rattle.office_noting.specs.Noted.{NotesAsked, NotesRequest};
 ghost use Rattle.office_noting.specs.Requests.{acts_of, request_name, request_of, sum_of};
 
 use crate::book::{Book, Watch};
@@ -68,8 +69,9 @@ fn note_list<W: Write, C: Watch>(
     all: &[Act],
     book: &mut Book<W, C>,
 ) -> Result<u64, Unwritten>
-    ensures { NotesAsked W.contents visit.now (acts body.now) (Some all.now) result
+    ensures line { NotesRequest W.contents visit.now (acts body.now) (Some all.now) result
         book.old.journal book.new.journal }
+    ensures named { book.new.named ≡ book.old.named }
 {
     let Ok(moment) = book.watch.moment(alloc) else {
         return Err(Unwritten::Memory);
@@ -90,8 +92,9 @@ fn note_resumption<W: Write, C: Watch>(
     visit: &Visit<'_>,
     book: &mut Book<W, C>,
 ) -> Result<u64, Unwritten>
-    ensures { NotesAsked W.contents visit.now (requested Resume) None result book.old.journal
-        book.new.journal }
+    ensures line { NotesRequest W.contents visit.now (requested Resume) None result
+        book.old.journal book.new.journal }
+    ensures named { book.new.named ≡ book.old.named }
 {
     let Ok(moment) = book.watch.moment(alloc) else {
         return Err(Unwritten::Memory);
@@ -103,6 +106,24 @@ fn note_resumption<W: Write, C: Watch>(
 }
 
 /// Writes the line of a request that may change the office, and returns its number.
+fn note_wanted<W: Write, C: Watch>(
+    alloc: Global,
+    visit: &Visit<'_>,
+    wanted: &Wanted<'_>,
+    book: &mut Book<W, C>,
+) -> Result<u64, Unwritten>
+    ensures line { NotesRequest W.contents visit.now (request_of wanted.now) (acts_of wanted.now)
+        result book.old.journal book.new.journal }
+    ensures named { book.new.named ≡ book.old.named }
+{
+    match wanted {
+        Wanted::Acts { body, acts } => note_list(alloc, visit, body, acts, book),
+        Wanted::Resumption => note_resumption(alloc, visit, book),
+    }
+}
+
+/// Writes the line of a request that may change the office behind the settings that decide it, and
+/// returns its number.
 pub(crate) fn note_asked<W: Write, C: Watch>(
     alloc: Global,
     visit: &Visit<'_>,
@@ -110,10 +131,10 @@ pub(crate) fn note_asked<W: Write, C: Watch>(
     book: &mut Book<W, C>,
 ) -> Result<u64, Unwritten>
     ensures { NotesAsked W.contents visit.now (request_of wanted.now) (acts_of wanted.now) result
-        book.old.journal book.new.journal }
+        (ledger_of book.old) (ledger_of book.new) }
 {
-    match wanted {
-        Wanted::Acts { body, acts } => note_list(alloc, visit, body, acts, book),
-        Wanted::Resumption => note_resumption(alloc, visit, book),
+    match book.name_settings(alloc, visit.settings) {
+        Ok(()) => note_wanted(alloc, visit, wanted, book),
+        Err(why) => Err(why),
     }
 }

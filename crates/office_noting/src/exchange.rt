@@ -5,11 +5,12 @@ ghost use Rattle.office_gate.specs.Stated.{visitor_stated};
 ghost use Rattle.office_http.specs.Proxies.{values_of};
 ghost use Rattle.office_http.specs.Receiving.{request_of_kind};
 ghost use Rattle.office_http.specs.Replies.{response};
-ghost use Rattle.office_noting.specs.Arrivals.{IsNotedStated, IsNotedToSend, IsUntouched, NotesVisit};
+ghost use Rattle.office_noting.specs.Arrivals.{IsNotedStated, IsNotedToSend, IsUntouched, NotesVisit, stated_address};
+ghost use Rattle.office_noting.specs.Ledgers.{ledger_of};
 ghost use Rattle.office_wire.specs.Calling.{AnsweredAt};
 ghost use Rattle.office_wire.specs.Serving.{ReportsUnavailable};
 
-use crate::arrival::Arrival;
+use crate::arrival::{Arrival, stated_address};
 use crate::book::{Book, Watch};
 use crate::turn::answer_noted;
 use crate::visit::Visit;
@@ -34,16 +35,17 @@ fn answer_stated<W: Write, C: Watch, S: Alter>(
     request: &ProxiedRequest,
 ) -> Reply
     ensures { IsNotedStated W.contents S.Store arrival.now
+        (stated_address (values_of request.now.lines.from))
         (visitor_stated arrival.now.gate.now (values_of request.now.lines.token)
         (values_of request.now.lines.name) (values_of request.now.lines.day))
-        (request_of_kind request.now.request.kind) (response result) book.old.journal
-        book.new.journal desk.old desk.new }
+        (request_of_kind request.now.request.kind) (response result) (ledger_of book.old)
+        (ledger_of book.new) desk.old desk.new }
 {
     match arrival.gate.visitor(alloc, &request.lines) {
         Ok(Some(keeper)) => {
             let visit = Visit {
                 keeper,
-                from: arrival.from,
+                from: stated_address(&request.lines.from),
                 settings: arrival.settings,
             };
             answer_noted(alloc, &visit, book, desk, &request.request.kind)
@@ -63,10 +65,11 @@ fn answer_request<W: Write, C: Watch, S: Alter>(
 ) -> OutgoingReply
     ensures is_head { result.is_head ≡ request.request.is_head }
     ensures noted { IsNotedStated W.contents S.Store arrival.now
+        (stated_address (values_of request.lines.from))
         (visitor_stated arrival.now.gate.now (values_of request.lines.token)
         (values_of request.lines.name) (values_of request.lines.day))
-        (request_of_kind request.request.kind) (response result.reply) book.old.journal
-        book.new.journal desk.old desk.new }
+        (request_of_kind request.request.kind) (response result.reply) (ledger_of book.old)
+        (ledger_of book.new) desk.old desk.new }
 {
     let reply = answer_stated(alloc, arrival, book, desk, &request);
     OutgoingReply {
@@ -87,17 +90,17 @@ pub fn answer_noted_visit<R: Read, W: Write, C: Watch, S: Alter>(
 ) -> Result<Option<OutgoingReply>, Io>
     // If the reader reports its bytes, the answer is that to all of them.
     ensures ok { IfOk result (λ it. IfSome (R.remaining reader.old)
-        (λ bytes. IsNotedToSend W.contents S.Store arrival.now bytes it book.old.journal
-        book.new.journal desk.old desk.new)) }
-    ensures noted { NotesVisit W.contents S.Store arrival.now book.old.journal
-        book.new.journal desk.old desk.new }
+        (λ bytes. IsNotedToSend W.contents S.Store arrival.now bytes it (ledger_of book.old)
+        (ledger_of book.new) desk.old desk.new)) }
+    ensures noted { NotesVisit W.contents S.Store arrival.now (ledger_of book.old)
+        (ledger_of book.new) desk.old desk.new }
 
     // The desk is where the same visit leaves it at a gate without a journal.
     ensures leaves { AnsweredAt S.Store desk.old desk.new
         (λ t. LeavesVisited S.Store t arrival.now.gate.now.policy desk.new) (Unit {0})
         (IfOk result (λ it. ReportsUnavailable it)) }
     ensures err { OnErr result
-        (IsUntouched book.old.journal book.new.journal desk.old desk.new) }
+        (IsUntouched (ledger_of book.old) (ledger_of book.new) desk.old desk.new) }
 {
     match receive_proxied(serving.alloc, serving.routes, reader) {
         Ok(Proxied::Nothing) => Ok(None),

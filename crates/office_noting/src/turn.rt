@@ -5,6 +5,7 @@ ghost use Rattle.office_gate.specs.Visitors.{visitor_of};
 ghost use Rattle.office_http.specs.Receiving.{acts, request_of_kind};
 ghost use Rattle.office_http.specs.Replies.{response};
 ghost use Rattle.office_json.specs.Lists.{IsListFault, NoActs, acts_in};
+ghost use Rattle.office_noting.specs.Ledgers.{ledger_of};
 ghost use Rattle.office_noting.specs.Noted.{IsNotedFirst, IsNotedReply, IsUnread, NotesList};
 ghost use Rattle.office_noting.specs.Requests.{IsListed, acts_of, request_of};
 ghost use Rattle.office_rules.specs.declared.act.Act.{Act};
@@ -93,7 +94,7 @@ fn serve_noted<W: Write, C: Watch, S: Alter>(
 ) -> Reply
     requires { IsListed wanted.now }
     ensures { IsNotedFirst W.contents S.Store visit.now (request_of wanted.now)
-        (acts_of wanted.now) (response result) book.old.journal book.new.journal desk.old
+        (acts_of wanted.now) (response result) (ledger_of book.old) (ledger_of book.new) desk.old
         desk.new }
 {
     let Ok(line) = note_asked(alloc, visit, wanted, book) else {
@@ -130,7 +131,7 @@ fn answer_list<W: Write, C: Watch, S: Alter>(
     body: &[u8],
 ) -> Reply
     ensures { NotesList W.contents S.Store visit.now body.now (acts_in body.now) (response result)
-        book.old.journal book.new.journal desk.old desk.new }
+        (ledger_of book.old) (ledger_of book.new) desk.old desk.new }
 {
     match read_acts(alloc, body) {
         Ok(acts) => {
@@ -156,7 +157,7 @@ pub fn answer_noted<W: Write, C: Watch, S: Alter>(
     kind: &RequestKind,
 ) -> Reply
     ensures { IsNotedReply W.contents S.Store visit.now (request_of_kind kind.now)
-        (response result) book.old.journal book.new.journal desk.old desk.new }
+        (response result) (ledger_of book.old) (ledger_of book.new) desk.old desk.new }
 {
     match kind {
         RequestKind::Acts(body) => answer_list(alloc, visit, book, desk, body.as_bytes()),

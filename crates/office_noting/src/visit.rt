@@ -8,14 +8,14 @@ use office_rules::Act;
 #[derive(Drop)]
 pub struct Visit<'a> {
     pub keeper: Keeper<'a>,
-    /// The address that the request came from.
+    /// The address that the request is stated to come from.
     pub from: &'a str,
-    /// The SHA-256 of the settings.
+    /// The SHA-256 of the settings that decide the request.
     pub settings: [u8; 32],
 }
 
 impl Visit<'_> {
-    /// Returns the address that the request came from.
+    /// Returns the address that the request is stated to come from.
     pub(crate) fn address(&self) -> &str
         ensures { result.now ≡ self.now.from.now }
     {

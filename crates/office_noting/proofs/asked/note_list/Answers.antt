@@ -3,8 +3,8 @@ use Rattle.serde_json.specs.Read.{read}
 use Rattle.office_noting.proofs.Listed.{has_notes}
 use Rattle.office_noting.proofs.asked.note_list.Goals as goal
 
-pub returns : goal.returns
-returns g c =
+pub returns-clause-line : goal.returns-clause-line
+returns-clause-line g c =
     let line = c.list_by-asked.ensures in
     inr (
       record c.list_by-asked.result { body = Some c.sum_of.result; settings = c.args.visit.now.settings },

@@ -2,8 +2,8 @@ use Rattle.std.proofs.Common.{◌∙◌, inr, refl, subst, sym, None}
 use Rattle.office_noting.specs.Requests.{HasNotes}
 use Rattle.office_noting.proofs.asked.note_resumption.Goals as goal
 
-pub returns : goal.returns
-returns g c =
+pub returns-clause-line : goal.returns-clause-line
+returns-clause-line g c =
     let line = c.resumption_by-asked.ensures in
     inr (
       record c.resumption_by-asked.result { settings = c.args.visit.now.settings },

@@ -9,8 +9,8 @@ returns-in-Ok-Request-clause-ok g c =
 
 pub returns-in-Ok-Request-clause-noted : goal.returns-in-Ok-Request-clause-noted
 returns-in-Ok-Request-clause-noted g c =
-    visited g.W.Write.contents g.S.Store c.args.arrival.now _ _ _ _ _ _ _ (settings_stated c.args.arrival.now.gate.now _ _ _) c.answer_request-sending.ensures.noted
+    visited g.W.Write.contents g.S.Store c.args.arrival.now _ _ _ _ _ _ _ _ (settings_stated c.args.arrival.now.gate.now _ _ _) c.answer_request-sending.ensures.noted
 
 pub returns-in-Ok-Request-clause-leaves : goal.returns-in-Ok-Request-clause-leaves
 returns-in-Ok-Request-clause-leaves g c =
-    left_by g.W.Write.contents g.S.Store c.args.arrival.now _ _ _ _ _ _ _ (settings_stated c.args.arrival.now.gate.now _ _ _) c.answer_request-sending.ensures.noted
+    left_by g.W.Write.contents g.S.Store c.args.arrival.now _ _ _ _ _ _ _ _ (settings_stated c.args.arrival.now.gate.now _ _ _) c.answer_request-sending.ensures.noted

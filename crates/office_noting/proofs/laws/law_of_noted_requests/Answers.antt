@@ -6,5 +6,5 @@ pub returns : goal.returns
 returns g c = record {
   asked = asked_in g.W.Write.contents g.S.Store;
   answered = answered_in g.W.Write.contents g.S.Store;
-  left = λ visit request r journal after old new. left g.W.Write.contents g.S.Store visit old new request r journal after;
+  left = λ visit request r ledger after old new. left g.W.Write.contents g.S.Store visit old new request r ledger after;
 }
