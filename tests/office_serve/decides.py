@@ -72,8 +72,25 @@ def decides(folder: pathlib.Path, file: pathlib.Path) -> None:
         again(door, served)
         renewed(door, served)
         judge("SIGTERM ends it", served.stop() == 0)
+    noted(door, file)
     usage(door, file)
     wrong(door, file)
+
+
+def noted(door: Door, file: pathlib.Path) -> None:
+    """Serves with a journal: each program that serves begins it anew, and an act has its lines."""
+    journal = file.with_name("city.journal")
+    door.secret.write_text(f"{SECRET}\n")
+    door.hand_over()
+    with Served(file, *door.options(), "--count", "2", "--journal", f"{journal}") as served:
+        judge("a reading", status_of(answer_of(served.port, by("reader", "GET", "/records/1"))) == 200)
+        judge("an act", status_of(answer_of(served.port, hold("NOTED"))) == 200)
+        judge("the next program acts", status_of(answer_of(served.port, hold("NOTED2"))) == 200)
+        judge("SIGTERM ends it", served.stop() == 0)
+    lines = [json.loads(line) for line in journal.read_bytes().splitlines()]
+    kinds = [line["what"] for line in lines if line["what"] != "closed"]
+    same("the lines", kinds, ["opened", "asked", "answered", "opened", "asked", "answered"])
+    same("each is linked to the one before", [line["line"] for line in lines], list(range(1, len(lines) + 1)))
 
 
 def copies(door: Door) -> None:

@@ -12,11 +12,13 @@ NAME = re.compile(r"[A-Za-z0-9._@-]{1,64}")
 
 @dataclass(frozen=True)
 class Door:
-    """The settings, the file of the secret, and the name of those who ask at the socket for readings."""
+    """The settings, the file of the secret, the name of those who ask at the socket for readings, and the journal."""
 
     access: Path
     token: Path
     reader: str
+    journal: str = "-"
+    """a file, or - for none"""
 
     def secret(self) -> str:
         """Reads the secret. The program reads it next, and refuses what is none."""
@@ -32,14 +34,15 @@ class Door:
         return f"Office-Token: {secret}\r\nOffice-Name: {self.reader}\r\nOffice-Day: {day}\r\n".encode("ascii")
 
 
-def door_of(access: Path | None, token: Path | None, reader: str | None, readings: str | None) -> Door | None:
+def door_of(access: Path | None, token: Path | None, reader: str | None, readings: str | None,
+            journal: str | None = None) -> Door | None:
     """Returns the door that the options describe; None without them."""
-    if access is None and token is None and reader is None:
+    if access is None and token is None and reader is None and journal is None:
         return None
     if access is None or token is None:
-        raise Refused(USAGE, "--access and --token need each other, and --reader needs both")
+        raise Refused(USAGE, "--access and --token need each other, and --reader and --journal need both")
     if readings is not None and reader is None:
         raise Refused(USAGE, "--readings needs --reader, by which the office knows who asks there")
     if reader is not None and not NAME.fullmatch(reader):
         raise Refused(USAGE, f"--reader '{reader}' is no name of settings")
-    return Door(access, token, reader or "")
+    return Door(access, token, reader or "", journal or "-")

@@ -33,7 +33,8 @@ class Program(program.Server):
         """Returns the arguments of a process that ends after so many connections."""
         if self.door is None:
             return super().args(count)
-        return ["gate", str(self.file), str(self.port), str(count), str(self.door.access), str(self.door.token)]
+        files = [str(self.door.access), str(self.door.token), self.door.journal]
+        return ["gate", str(self.file), str(self.port), str(count), *files]
 
     def reader_lines(self) -> bytes:
         """Returns the lines that a reading at the socket gets; none for a program that does not decide."""

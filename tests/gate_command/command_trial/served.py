@@ -24,6 +24,8 @@ CITY = "".join(line for line in (TOP / "companions/gate/city.access").read_text(
 """the settings that are shipped, without the lines of SITE and the marks around them"""
 ROLES = "".join(f"{it}\n" for it in CITY.splitlines() if it.startswith("role "))
 TOKEN = {"error": "token"}
+LIMITED = ["sh", "-c", 'trap "" XFSZ; exec "$@"', "sh"]
+"""starts a program whose writes fail beyond a limit on the size of a file, as on a full disk"""
 Act = Mapping[str, object]
 
 
@@ -56,10 +58,11 @@ def stopped(answers: Sequence[object], error: str, rule: str | None = None) -> A
 
 
 class Gated:
-    """The command over the office of a folder. Used by `with`, the program is killed at the end."""
+    """The command over the office of a folder, with a journal or without. Used by `with`, it is killed at the end."""
 
-    def __init__(self, folder: pathlib.Path, settings: str) -> None:
-        self.folder = folder
+    def __init__(self, folder: pathlib.Path, settings: str, journal: str = "-") -> None:
+        self.folder, self.journal = folder, folder / journal
+        self.lines = str(self.journal) if journal != "-" else journal
         folder.mkdir(exist_ok=True)
         self.file, self.settings, self.token = folder / "office.db", folder / "access", folder / "token"
         self.token.write_text(f"{SECRET}\n")
@@ -69,7 +72,8 @@ class Gated:
 
     def start(self, count: int = 1_000_000) -> None:
         """Starts the command, and waits until the office is open."""
-        self.served = start(lambda port: [OFFICE, "gate", self.file, port, count, self.settings, self.token])
+        self.served = start(lambda port: [*LIMITED, OFFICE, "gate", self.file, port, count, self.settings, self.token,
+                                          self.lines])
 
     def settle(self, settings: str) -> None:
         """Puts other settings in the place of the file at once, as `mv` does."""

@@ -22,7 +22,7 @@ class Files:
         self.token.write_text(SECRET)
 
     def begun(self, *arguments: object) -> Done:
-        return office("gate", *(arguments or (self.file, free_port(), 1, self.access, self.token)))
+        return office("gate", *(arguments or (self.file, free_port(), 1, self.access, self.token, "-")))
 
     def refused(self, name: str, status: int, error: str, *arguments: object) -> None:
         """Judges a start that fails: its whole output, and that no office is made."""
@@ -98,14 +98,14 @@ def arguments(folder: pathlib.Path) -> None:
     for port, count, status, error in (("0", "1", 1, "office: refused 3\n"), ("65536", "1", 1, "office: refused 3\n"),
                                        ("x", "1", 1, "office: refused 2\n"), ("8080", "0", 1, "office: refused 3\n"),
                                        ("8080", "1000001", 1, "office: refused 3\n")):
-        it.refused(f"PORT {port}, COUNT {count}", status, error, it.file, port, count, it.access, it.token)
-    for missing in range(5):
-        given = [it.file, free_port(), 1, it.access, it.token][:missing]
+        it.refused(f"PORT {port}, COUNT {count}", status, error, it.file, port, count, it.access, it.token, "-")
+    for missing in range(6):
+        given = [it.file, free_port(), 1, it.access, it.token, "-"][:missing]
         done = office("gate", *given)
         judge(f"{missing} operands: usage", done.status == 2 and "Usage" in done.error and not it.file.exists(), done)
     with socket.create_server(("127.0.0.1", 0)) as taken:
         port = taken.getsockname()[1]
-        it.refused("PORT is taken", 3, "office: socket\n", it.file, port, 1, it.access, it.token)
+        it.refused("PORT is taken", 3, "office: socket\n", it.file, port, 1, it.access, it.token, "-")
     it.file.write_bytes(b"no office" * 1000)
     done = it.begun()
     same("FILE is no office", (done.status, done.error), (3, "office: fault 31\n"))
