@@ -35,6 +35,7 @@ SEES = {
     "office-overdue": ["office", "office-registers", "gate_tokens.conf"],
     "office-overdue-mail": ["office-registers"],
     "office-scrub": ["office-backups"],
+    "office-renew": ["office-seals", "NAME.tsa.pem"],
     "office-seal": ["office-certificates", "office-seals", "NAME.withdrawn"],
     "office-stamp": ["office-seals", "NAME.tsa.pem"],
     "office-vault": ["office-vaults"],
