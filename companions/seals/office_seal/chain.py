@@ -2,6 +2,9 @@
 
     000003/certificate-2.txt  the certificate      000003/seal.txt      its SHA-256, and that of the seal before
     000003/seal.txt.sig       a signature of it    000003/seal.txt.tsr  a time stamp of the signature, if there is one
+    000003/sealed.p7s         one of both texts    000003/sealed.p7s.tsr  a time stamp of that one
+
+It has the first signature, the second or both.
 """
 import hashlib
 import pathlib
@@ -11,6 +14,8 @@ from dataclasses import dataclass
 from office_common.errors import WRONG, Refused
 
 FIRST = "0" * 64
+SIGNATURES = {"seal.txt.sig": "seal.txt.tsr", "sealed.p7s": "sealed.p7s.tsr"}
+"""the file of each signature, and of its time stamp"""
 FORM = re.compile(r"SEAL ([1-9][0-9]*)\nOFFICE ([A-Za-z0-9._-]+)\nCERTIFICATE ([1-9][0-9]*)\nSHA256 ([0-9a-f]{64})\n"
                   r"PREVIOUS ([0-9a-f]{64})\nAT ([0-9T:Z-]{20})\nWHY (closed|restored|key)\n")
 
@@ -55,3 +60,9 @@ def read(seals: pathlib.Path, office: str) -> list[Seal]:
             raise Refused(WRONG, f"{folder} is of the office {match[2]}, and not of {office}")
         chain.append(Seal(folder, at, match[2], int(match[3]), match[4], match[5], match[6], digest(data)))
     return chain
+
+
+def signatures_in(seal: Seal) -> list[tuple[pathlib.Path, pathlib.Path]]:
+    """Returns the files of a seal's signatures, each with that of its time stamp, which may be missing."""
+    return [(seal.folder / signature, seal.folder / stamp) for signature, stamp in SIGNATURES.items()
+            if (seal.folder / signature).exists()]

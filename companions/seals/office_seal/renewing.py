@@ -95,7 +95,7 @@ def sha512(file: pathlib.Path) -> str:
 def stamps_in(seals: pathlib.Path, sealed: list[Seal], renewals: list[pathlib.Path], listed: set[str],
               authority: Authority) -> tuple[list[Bare], dict[str, str]]:
     """Returns the stamps that the last renewal does not list, its own stamp too, and why any of these is not good."""
-    stamps = [(seal.folder / "seal.txt.sig", seal.folder / "seal.txt.tsr") for seal in sealed]
+    stamps = [files for seal in sealed for files in chain.signatures_in(seal)]
     stamps += [(renewal / LIST, renewal / f"{LIST}.tsr") for renewal in renewals]
     bare, wrong = [], {}
     for stamped, stamp in stamps:

@@ -10,7 +10,7 @@ from office_common import files
 from office_common.errors import IMPOSSIBLE, USAGE, Refused
 
 from office_seal import chain
-from office_seal.signing import tool
+from office_seal.tool import tool
 
 SECONDS = 60
 LONGEST = 1 << 20
@@ -30,12 +30,11 @@ def stamp(seals: pathlib.Path, office: str, authority: Authority) -> int:
     with files.locked(seals):
         new = 0
         for seal in chain.read(seals, office):
-            signature, stamped = seal.folder / "seal.txt.sig", seal.folder / "seal.txt.tsr"
-            if stamped.exists():
-                continue
-            need(authority)
-            files.write(stamped, stamp_of(signature, authority))
-            new += 1
+            for signature, stamped in chain.signatures_in(seal):
+                if not stamped.exists():
+                    need(authority)
+                    files.write(stamped, stamp_of(signature, authority))
+                    new += 1
         return new
 
 

@@ -8,7 +8,7 @@ from dataclasses import dataclass
 
 from office_common.errors import IMPOSSIBLE, Refused
 
-from office_seal.signing import tool
+from office_seal.tool import tool
 
 DIGESTS = ("sha256", "sha384", "sha512")
 """digests for time stamps, the weakest first"""

@@ -7,7 +7,7 @@ import datetime
 from transferring.verifying import renewal, stamp
 from transferring.verifying.report import FOREIGN, WITHDRAWN, Report
 from transferring.verifying.seal import Seal, is_text_good, seal_in
-from transferring.verifying.signature import has_ended, is_signed
+from transferring.verifying.signature import Signature, is_signed, signatures_of
 from transferring.verifying.stamp import Stamp
 from transferring.verifying.tools import DAY, UTC, digest
 
@@ -28,9 +28,11 @@ def look(options: argparse.Namespace) -> Report:
         report.count, before = at, digest((folder / "seal.txt").read_bytes())
         report.last = f"{at}, SHA-256 {before}"
         report.office = report.office or seal.office
-        stamped = stamp.stamp_of(seal, options.trust, renewals, report) if options.trust is not None else None
-        is_good = (is_in_order(seal, options, report) & is_text_good(seal, report) & is_near(seal, stamped, options, report)
-                   & is_signed(seal, stamped, options, report))
+        signatures = signatures_of(seal, options, report)
+        is_good = is_in_order(seal, signatures, options, report) & is_text_good(seal, report) & bool(signatures)
+        for signature in signatures:
+            stamped = stamp.stamp_of(signature, options.trust, renewals, report) if options.trust is not None else None
+            is_good &= is_near(seal, stamped, options, report) & is_signed(signature, stamped, options, report)
         texts = report.texts.setdefault(seal.certificate, [])
         if seal.digest not in texts:
             texts.append(seal.digest)
@@ -41,7 +43,7 @@ def look(options: argparse.Namespace) -> Report:
     return report
 
 
-def is_in_order(seal: Seal, options: argparse.Namespace, report: Report) -> bool:
+def is_in_order(seal: Seal, signatures: list[Signature], options: argparse.Namespace, report: Report) -> bool:
     """Returns whether a seal is of the office of its chain, no earlier than the seal before it, and not of tomorrow."""
     wrong, name = len(report.wrong), seal.folder.name
     if seal.office != report.office:
@@ -49,7 +51,7 @@ def is_in_order(seal: Seal, options: argparse.Namespace, report: Report) -> bool
     if seal.at < report.at:
         # it was made after the seal before it, whatever it says, and before now
         made = min(datetime.datetime.strptime(report.at, UTC), options.now)
-        is_over = has_ended(seal, made, options.signers)
+        is_over = any(signature.has_ended(made) for signature in signatures)
         report.refuse(name, f"AT {seal.at} is before {report.at}, which the seal before it has", WITHDRAWN if is_over else "")
     if options.trust is None and seal.moment() > options.now + DAY:
         report.wrong.append(f"{name}: AT {seal.at} has not come yet")
@@ -83,5 +85,7 @@ def conclude(report: Report, restored: list[int]) -> None:
         if len(texts) > 1:
             sentence = f"certificate {number} has {len(texts)} texts, the last is {texts[-1]}: ask why"
             (report.notes if number in restored else report.wrong).append(sentence)
+    if report.unread:
+        report.notes.append(f"{report.unread} CAdES signatures were not verified: give --certificates")
     if not report.count:
         report.wrong.append("there is no seal")

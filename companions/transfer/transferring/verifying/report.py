@@ -25,10 +25,12 @@ class Report:
     good: set[tuple[int, str]] = field(default_factory=set)
     # texts of which a seal is by a key that was withdrawn, with the seal and the sentence for it
     withdrawn: dict[tuple[int, str], list[tuple[str, str]]] = field(default_factory=dict)
-    # the office of the chain, AT of the seal before, and the keys in the order of their seals
+    # the office of the chain, AT of the seal before, and for each form of signatures the keys in the order of their seals
     office: str = ""
     at: str = ""
-    keys: list[str] = field(default_factory=list)
+    keys: dict[str, list[str]] = field(default_factory=dict)
+    # how many CAdES signatures nobody could verify
+    unread: int = 0
     count: int = 0
     stamps: int = 0
     expired: int = 0
