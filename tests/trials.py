@@ -55,7 +55,7 @@ LANDING = [
     *parts_of("tests/signin/run", f"{SIGNIN} faketime", clock=100),
     *parts_of("tests/transfer/run", TOOLS, lists=400, seals=400, keys=300, wrong=300, again=300, forged=200, odd=200,
               gone=200, kinds=200, site=200, stamps=300, clocks=300, strangers=300, stamped=300, ended=300, lost=300,
-              words=300, bytes_of_a_seal=300, years=400, renewed=400, forms=300,
+              words=300, bytes_of_a_seal=300, years=400, renewed=400, forms=300, heads=200,
               beside=300, thousand=400, mail=200),
     Trial("tests/intake/run", "a folder and a mailbox come in, and come in again", needs="program nodejs", limit=400),
     Trial("tests/yearend/run", "lists of the year's end go on their day alone", needs=f"{GATE} faketime", limit=400),

@@ -55,6 +55,8 @@ ROWS = [
     Row("openssl x509 -in /etc/office/city.cades.pem", prints=""),
     Row("ssh-keygen -i", prints=""),
     Row("office-seal pack", prints="packed: certificate-1.asics\n", then=is_packed),
+    Row("grep -h", prints="", status=1),
+    Row("office-journal check", skip="tests/gate has a journal"),
     Row("runuser -u office-seal -- office-seal renew", skip="no authority answers"),
     Row("mkdir -p certificates seals"),
     Row("office-seal fetch --restored", prints="certificates: 0\n"),

@@ -17,7 +17,8 @@ FIRST = "0" * 64
 SIGNATURES = {"seal.txt.sig": "seal.txt.tsr", "sealed.p7s": "sealed.p7s.tsr"}
 """the file of each signature, and of its time stamp"""
 FORM = re.compile(r"SEAL ([1-9][0-9]*)\nOFFICE ([A-Za-z0-9._-]+)\nCERTIFICATE ([1-9][0-9]*)\nSHA256 ([0-9a-f]{64})\n"
-                  r"PREVIOUS ([0-9a-f]{64})\nAT ([0-9T:Z-]{20})\nWHY (closed|restored|key)\n")
+                  r"PREVIOUS ([0-9a-f]{64})\nAT ([0-9T:Z-]{20})\nWHY (closed|restored|key)\n"
+                  r"(?:JOURNAL [1-9][0-9]{0,14}:[0-9a-f]{64}\n)?")
 
 
 @dataclass(frozen=True)
@@ -38,10 +39,11 @@ def digest(data: bytes) -> str:
     return hashlib.sha256(data).hexdigest()
 
 
-def text(number: int, office: str, certificate: int, sealed: str, previous: str, at: str, why: str) -> bytes:
-    """Returns the text of a seal, which is signed."""
+def text(number: int, office: str, certificate: int, sealed: str, previous: str, at: str, why: str, head: str) -> bytes:
+    """Returns the text of a seal, which is signed. If the head of the gate's journal is known, it has that."""
+    journal = f"JOURNAL {head}\n" if head else ""
     return (f"SEAL {number}\nOFFICE {office}\nCERTIFICATE {certificate}\nSHA256 {sealed}\nPREVIOUS {previous}\n"
-            f"AT {at}\nWHY {why}\n").encode()
+            f"AT {at}\nWHY {why}\n{journal}").encode()
 
 
 def read(seals: pathlib.Path, office: str) -> list[Seal]:

@@ -1,6 +1,7 @@
 """Signs a certificate, as one more seal of the chain."""
 import os
 import pathlib
+import re
 import shutil
 import time
 from dataclasses import dataclass
@@ -34,6 +35,8 @@ class Sealer:
     office: str
     keys: tuple[Ssh | Cades, ...]
     was_clock_wrong: bool = False
+    # a file with the head of the gate's journal
+    journal: pathlib.Path | None = None
 
     def chain(self) -> list[Seal]:
         """Returns the seals that are there. An office that has a seal had a key."""
@@ -52,6 +55,11 @@ class Sealer:
                                       "the same, and office-verify reports the place")
         return now
 
+    def head(self) -> str:
+        """Returns the last head of the gate's journal that was checked, LINE:SHA256; empty if there is none."""
+        text = self.journal.read_text(errors="replace").strip() if self.journal and self.journal.is_file() else ""
+        return text if re.fullmatch("[1-9][0-9]{0,14}:[0-9a-f]{64}", text) else ""
+
     def add(self, there: list[Seal], body: bytes, number: int, why: str) -> None:
         """Makes the next seal in a folder of its own, and puts it in its place by one rename."""
         at, moment = len(there) + 1, self.moment(there)
@@ -60,7 +68,7 @@ class Sealer:
         folder.mkdir()
         files.write(folder / f"certificate-{number}.txt", body)
         before = there[-1].own if there else chain.FIRST
-        text = chain.text(at, self.office, number, chain.digest(body), before, moment, why)
+        text = chain.text(at, self.office, number, chain.digest(body), before, moment, why, self.head())
         files.write(folder / "seal.txt", text)
         for key in self.keys:
             key.sign(folder, number)

@@ -55,8 +55,19 @@ def is_in_order(seal: Seal, signatures: list[Signature], options: argparse.Names
         report.refuse(name, f"AT {seal.at} is before {report.at}, which the seal before it has", WITHDRAWN if is_over else "")
     if options.trust is None and seal.moment() > options.now + DAY:
         report.wrong.append(f"{name}: AT {seal.at} has not come yet")
+    compare_heads(seal, report)
     report.at = seal.at
     return wrong == len(report.wrong)
+
+
+def compare_heads(seal: Seal, report: Report) -> None:
+    """Compares the line of the gate's journal that a seal names with the one that a seal before named."""
+    line, head, before = report.journal
+    if seal.line and line and (seal.line < line or (seal.line == line and seal.head != head)):
+        report.wrong.append(f"{seal.folder.name}: the gate's journal ended with line {seal.line} then, and with "
+                            f"{'line ' + str(line) if seal.line < line else 'another such line'} at seal {before}")
+    if seal.line:
+        report.journal = (seal.line, seal.head, seal.folder.name)
 
 
 def is_near(seal: Seal, stamped: Stamp | None, options: argparse.Namespace, report: Report) -> bool:
@@ -85,6 +96,9 @@ def conclude(report: Report, restored: list[int]) -> None:
         if len(texts) > 1:
             sentence = f"certificate {number} has {len(texts)} texts, the last is {texts[-1]}: ask why"
             (report.notes if number in restored else report.wrong).append(sentence)
+    if report.journal[0]:
+        line, head, seal = report.journal
+        report.notes.append(f"{seal}: line {line} of the gate's journal is {line}:{head}")
     if report.unread:
         report.notes.append(f"{report.unread} CAdES signatures were not verified: give --certificates")
     if not report.count:

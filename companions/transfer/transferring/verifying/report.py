@@ -29,6 +29,8 @@ class Report:
     office: str = ""
     at: str = ""
     keys: dict[str, list[str]] = field(default_factory=dict)
+    # the last line of the gate's journal that a seal named, its SHA-256, and that seal
+    journal: tuple[int, str, str] = (0, "", "")
     # how many CAdES signatures nobody could verify
     unread: int = 0
     count: int = 0

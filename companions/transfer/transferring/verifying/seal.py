@@ -1,4 +1,4 @@
-"""One seal of a chain: the seven lines that it says, its place, and the certificate beside it."""
+"""One seal of a chain: the seven or eight lines that it says, its place, and the certificate beside it."""
 from __future__ import annotations
 
 import datetime
@@ -11,7 +11,7 @@ from transferring.verifying.tools import UTC, data_of, digest
 
 FORM = re.compile(rb"SEAL ([0-9]{1,10})\nOFFICE ([A-Za-z0-9._-]+)\nCERTIFICATE ([0-9]{1,10})\nSHA256 ([0-9a-f]{64})\n"
                   rb"PREVIOUS ([0-9a-f]{64})\nAT ([0-9]{4}-[0-9]{2}-[0-9]{2}T[0-9]{2}:[0-9]{2}:[0-9]{2}Z)\n"
-                  rb"WHY (closed|restored|key)\n")
+                  rb"WHY (closed|restored|key)\n(?:JOURNAL ([1-9][0-9]{0,14}):([0-9a-f]{64})\n)?")
 
 
 @dataclass(frozen=True)
@@ -26,6 +26,9 @@ class Seal:
     previous: str
     at: str
     why: str
+    # the last line of the gate's journal by then, and its SHA-256; 0 if the seal does not say
+    line: int = 0
+    head: str = ""
 
     def moment(self) -> datetime.datetime:
         return datetime.datetime.strptime(self.at, UTC)
@@ -38,8 +41,9 @@ def seal_in(folder: Path, at: int, before: str, report: Report) -> Seal | None:
     if match is None:
         report.refuse(folder.name, "there is no seal of a known form", FORGED if data is not None else "")
         return None
-    fields = [group.decode() for group in match.groups()]
-    seal = Seal(folder, int(fields[0]), fields[1], int(fields[2]), fields[3], fields[4], fields[5], fields[6])
+    fields = [(group or b"").decode() for group in match.groups()]
+    seal = Seal(folder, int(fields[0]), fields[1], int(fields[2]), fields[3], fields[4], fields[5], fields[6],
+                int(fields[7] or 0), fields[8])
     try:
         seal.moment()
     except ValueError:
