@@ -247,6 +247,12 @@ def changed(folder: pathlib.Path) -> None:
             file.write_bytes(data)
         judge(f"{len(files)} changes of one byte, and {len(files)} files that are lost, are seen", not silent, silent[:2])
         judge("nothing is renewed over a file that was changed", len(renewals) == len(listed) and all(renewals))
+        for name in (LIST, f"{LIST}.tsr"):
+            lost = (place.seals / "renewed/0002" / name).rename(place.folder / "lost")
+            done = place.verify(clock="+1010d")
+            judge(f"without the authority a renewal that lacks its {name} is reported", done.status == 1
+                  and f"WRONG: renewed/0002: {name} is missing" in done.out and "wrong: 1" in done.out, done)
+            lost.rename(place.seals / "renewed/0002" / name)
         shutil.move(place.seals / "renewed/0001", place.folder)
         done = place.verify()
         judge("a renewal that is missing is reported", done.status == 1 and "renewed/0002: renewal 1 is missing" in done.out, done)

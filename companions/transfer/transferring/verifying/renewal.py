@@ -92,12 +92,12 @@ def sha512(file: Path) -> str:
 def timed(seals: Path, name: str, files: frozenset[str], trust: Trust | None, later: list[Renewal],
           report: Report) -> Renewal:
     """Returns a renewal with the moment of its stamp, which the renewals that follow it may prove for longer."""
-    if trust is None:
-        return Renewal(name, files, None, FOREVER)
     own = {f"{name}/{LIST}", f"{name}/{LIST}.tsr"}
+    missing = sorted(file for file in own if data_of(seals / file) is None)
+    report.wrong += [f"{name}: {file.rpartition('/')[2]} is missing" for file in missing]
+    if trust is None or missing:
+        return Renewal(name, files, None, FOREVER)
     try:
-        if not all(data_of(seals / file) for file in own):
-            raise Bad("there is no list with a time stamp")
         verdict = token.judge(Token(seals / name / f"{LIST}.tsr", seals / name / LIST, "list"), trust)
     except Bad as bad:
         report.refuse(name, str(bad), bad.word)
