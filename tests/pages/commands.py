@@ -6,7 +6,7 @@ from typing import NamedTuple
 TOP = pathlib.Path(__file__).resolve().parent.parent.parent
 # what a block of commands begins with, beside the office's own programs; other blocks show a file or an output
 PROGRAMS = {
-    "adduser", "age", "age-keygen", "apt-get", "cd", "chattr", "chgrp", "chmod", "chown", "cp", "curl", "cut", "echo",
+    "adduser", "age", "age-keygen", "apt-get", "cat", "cd", "chattr", "chgrp", "chmod", "chown", "cp", "curl", "cut", "echo",
     "find", "grep", "head", "htpasswd", "install", "journalctl", "ln", "mkdir", "mv", "nft", "nginx", "openssl",
     "printf", "rm", "rsync", "rt", "runuser", "sed", "setfacl", "sha256sum", "shred", "sqlite3", "ssh-keygen", "systemctl",
     "systemd-analyze", "tail", "umask",

@@ -18,6 +18,20 @@ def is_first(shell: Shell) -> None:
     shell.run("rm -r certificates seals")
 
 
+def is_signed_in_both(shell: Shell) -> None:
+    """What the unit does from then on."""
+    done = shell.run("mkdir both && office-seal sign --name city --form both --key /etc/office/city.key "
+                     "--cades-key /etc/office/city.cades.key --certificate /etc/office/city.cades.pem certificates both && "
+                     "mv seals before && mv both seals && office-verify --certificates /etc/office/city.cades.pem seals "
+                     "/etc/office/city.signers")
+    judge("seals have both signatures", done.status == 0 and "seals: 2, certificates: 2, wrong: 0" in done.out, done)
+
+
+def is_packed(shell: Shell) -> None:
+    """The parts that follow go on with the seals of before."""
+    shell.run("rm -r seals && mv before seals")
+
+
 def units_are_taken(shell: Shell) -> None:
     done = shell.run("systemd-analyze verify --man=no /etc/systemd/system/office-*@.*")
     judge("systemd-analyze takes the units", done.status == 0, done.err)
@@ -35,6 +49,15 @@ ROWS = [
     Row('echo "city', prints=""),
     Row("ssh-keygen -l", like=r"256 SHA256:\S+ office city, first key \(ED25519\)\n"),
     Row("systemctl", skip="without systemd"),
+    Row("openssl req"),
+    Row("chmod", prints=""),
+    Row("echo FORM=both", prints="", then=is_signed_in_both),
+    Row("openssl x509 -in /etc/office/city.cades.pem", prints=""),
+    Row("ssh-keygen -i", prints=""),
+    Row("office-seal pack", prints="packed: certificate-1.asics\n", then=is_packed),
+    Row("grep -h", prints="", status=1),
+    Row("office-journal check", skip="tests/gate has a journal"),
+    Row("runuser -u office-seal -- office-seal renew", skip="no authority answers"),
     Row("mkdir -p certificates seals"),
     Row("office-seal fetch --restored", prints="certificates: 0\n"),
     Row("office-seal fetch", prints="certificates: 2\n"),

@@ -59,7 +59,7 @@ class Place:
 
 
 def seals_of(place: Place) -> list[pathlib.Path]:
-    return sorted(it for it in place.seals.iterdir() if not it.name.startswith("."))
+    return sorted(place.seals.glob("[0-9]*"))
 
 
 def seals(folder: pathlib.Path) -> None:

@@ -112,7 +112,9 @@ def reach(files: list[Path], moment: float) -> None:
 
 def nightly(options: argparse.Namespace) -> int:
     """check the journal with the heads of systemd's journal, and replay the acts between the copies of the last two nights"""
-    printed(nights.checked(options.journal, nights.heads_of_unit(options.unit) if options.unit else set()), False)
+    checked = nights.checked(options.journal, nights.heads_of_unit(options.unit) if options.unit else set())
+    printed(checked, False)
+    nights.keep(checked.head, options.work)
     with nights.room(options.work) as folder:
         task = nights.replay_of(options, folder)
         return replay(task) if task else 0

@@ -7,6 +7,7 @@ import subprocess
 import tempfile
 from pathlib import Path
 
+from office_common import files
 from office_gate import chain
 from office_gate.chain import Head
 from office_gate.checking import Checked, check, heads_in
@@ -59,6 +60,11 @@ def checked(journal: Path, known: set[Head]) -> Checked:
         raise Refused(3, f"there is no journal {journal}")
     gone = dropped(journal)
     return check(files, known | gone, gone)
+
+
+def keep(head: Head, work: Path) -> None:
+    """Writes the head of a journal that was checked, for the seals of the office."""
+    files.write(work / "head", f"{head}\n".encode())
 
 
 def replay_of(options: argparse.Namespace, folder: str) -> argparse.Namespace | None:

@@ -2,6 +2,9 @@
 
     000003/certificate-2.txt  the certificate      000003/seal.txt      its SHA-256, and that of the seal before
     000003/seal.txt.sig       a signature of it    000003/seal.txt.tsr  a time stamp of the signature, if there is one
+    000003/sealed.p7s         one of both texts    000003/sealed.p7s.tsr  a time stamp of that one
+
+It has the first signature, the second or both.
 """
 import hashlib
 import pathlib
@@ -11,8 +14,11 @@ from dataclasses import dataclass
 from office_common.errors import WRONG, Refused
 
 FIRST = "0" * 64
+SIGNATURES = {"seal.txt.sig": "seal.txt.tsr", "sealed.p7s": "sealed.p7s.tsr"}
+"""the file of each signature, and of its time stamp"""
 FORM = re.compile(r"SEAL ([1-9][0-9]*)\nOFFICE ([A-Za-z0-9._-]+)\nCERTIFICATE ([1-9][0-9]*)\nSHA256 ([0-9a-f]{64})\n"
-                  r"PREVIOUS ([0-9a-f]{64})\nAT ([0-9T:Z-]{20})\nWHY (closed|restored|key)\n")
+                  r"PREVIOUS ([0-9a-f]{64})\nAT ([0-9T:Z-]{20})\nWHY (closed|restored|key)\n"
+                  r"(?:JOURNAL [1-9][0-9]{0,14}:[0-9a-f]{64}\n)?")
 
 
 @dataclass(frozen=True)
@@ -33,10 +39,11 @@ def digest(data: bytes) -> str:
     return hashlib.sha256(data).hexdigest()
 
 
-def text(number: int, office: str, certificate: int, sealed: str, previous: str, at: str, why: str) -> bytes:
-    """Returns the text of a seal, which is signed."""
+def text(number: int, office: str, certificate: int, sealed: str, previous: str, at: str, why: str, head: str) -> bytes:
+    """Returns the text of a seal, which is signed. If the head of the gate's journal is known, it has that."""
+    journal = f"JOURNAL {head}\n" if head else ""
     return (f"SEAL {number}\nOFFICE {office}\nCERTIFICATE {certificate}\nSHA256 {sealed}\nPREVIOUS {previous}\n"
-            f"AT {at}\nWHY {why}\n").encode()
+            f"AT {at}\nWHY {why}\n{journal}").encode()
 
 
 def read(seals: pathlib.Path, office: str) -> list[Seal]:
@@ -55,3 +62,9 @@ def read(seals: pathlib.Path, office: str) -> list[Seal]:
             raise Refused(WRONG, f"{folder} is of the office {match[2]}, and not of {office}")
         chain.append(Seal(folder, at, match[2], int(match[3]), match[4], match[5], match[6], digest(data)))
     return chain
+
+
+def signatures_in(seal: Seal) -> list[tuple[pathlib.Path, pathlib.Path]]:
+    """Returns the files of a seal's signatures, each with that of its time stamp, which may be missing."""
+    return [(seal.folder / signature, seal.folder / stamp) for signature, stamp in SIGNATURES.items()
+            if (seal.folder / signature).exists()]

@@ -1,68 +1,47 @@
-"""Signs a certificate by ssh-keygen, as one more seal of the chain."""
+"""Signs a certificate, as one more seal of the chain."""
 import os
 import pathlib
+import re
 import shutil
-import subprocess
 import time
 from dataclasses import dataclass
 
 from office_common import files
 from office_common.errors import IMPOSSIBLE, USAGE, WRONG, Refused
 
-from office_seal import chain, fetching
+from office_seal import cades, chain, fetching, ssh
+from office_seal.cades import Cades
 from office_seal.chain import Seal
+from office_seal.ssh import Ssh
 
-# what ssh-keygen writes into a signature, so that it counts for nothing else
-SPACE = "office-seal"
+FORMS = {"ssh": (Ssh,), "cades": (Cades,), "both": (Ssh, Cades)}
+"""which signatures a seal has"""
 NEW = ".new"
 # what the unit office-seal@ gives for a key if root's file of it is not there
 LOST = b"lost"
 
 
-def tool(*args: str, data: bytes = b"") -> bytes:
-    """Runs a program and returns what it prints."""
-    try:
-        done = subprocess.run(args, input=data, capture_output=True, check=False,
-                              env={**os.environ, "SSH_ASKPASS_REQUIRE": "never", "LC_ALL": "C"})
-    except OSError as why:
-        raise Refused(IMPOSSIBLE, f"there is no {args[0]}: {why.strerror}") from why
-    if done.returncode:
-        raise Refused(IMPOSSIBLE, f"{args[0]}: {(done.stderr or done.stdout).decode(errors='replace').strip()}")
-    return done.stdout
-
-
-def fingerprint(line: bytes) -> str:
-    """Returns the fingerprint in a line that ssh-keygen prints."""
-    return next((it for it in line.decode(errors="replace").split() if it.startswith("SHA256:")), "")
-
-
-def signer(seal: Seal) -> str:
-    """Returns the fingerprint of the key that signed a seal."""
-    signed = (seal.folder / "seal.txt").read_bytes()
-    return fingerprint(tool("ssh-keygen", "-Y", "check-novalidate", "-n", SPACE, "-s",
-                            str(seal.folder / "seal.txt.sig"), data=signed))
-
-
-def keys_in(file: pathlib.Path | None) -> set[str]:
-    """Returns the fingerprints of the public keys in a file."""
-    if file is None:
-        return set()
-    return {fingerprint(it) for it in tool("ssh-keygen", "-l", "-f", str(file)).splitlines()} - {""}
+def signers(seal: Seal) -> set[str]:
+    """Returns the fingerprints of the keys that signed a seal."""
+    modules = [module for module in (ssh, cades) if (seal.folder / module.FILE).exists()]
+    return {module.signer(seal) for module in modules}
 
 
 @dataclass(frozen=True)
 class Sealer:
-    """An office that seals: the folder of its seals, its name, its key, and whether it may go on after a wrong clock."""
+    """An office that seals: the folder of its seals, its name, its keys, and whether it may go on after a wrong clock."""
 
     seals: pathlib.Path
     office: str
-    key: pathlib.Path
+    keys: tuple[Ssh | Cades, ...]
     was_clock_wrong: bool = False
+    # a file with the head of the gate's journal
+    journal: pathlib.Path | None = None
 
     def chain(self) -> list[Seal]:
         """Returns the seals that are there. An office that has a seal had a key."""
         there = chain.read(self.seals, self.office)
-        if not self.key.is_file() or self.key.read_bytes().strip() == LOST:
+        if not all(key.key.is_file() and key.key.read_bytes().strip() != LOST for key in self.keys):
             lost = f"the key is lost, and nothing follows seal {there[-1].number}" if there else "there is no key"
             raise Refused(USAGE, f"{lost}: EVIDENCE.md, Keys")
         return there
@@ -76,6 +55,11 @@ class Sealer:
                                       "the same, and office-verify reports the place")
         return now
 
+    def head(self) -> str:
+        """Returns the last head of the gate's journal that was checked, LINE:SHA256; empty if there is none."""
+        text = self.journal.read_text(errors="replace").strip() if self.journal and self.journal.is_file() else ""
+        return text if re.fullmatch("[1-9][0-9]{0,14}:[0-9a-f]{64}", text) else ""
+
     def add(self, there: list[Seal], body: bytes, number: int, why: str) -> None:
         """Makes the next seal in a folder of its own, and puts it in its place by one rename."""
         at, moment = len(there) + 1, self.moment(there)
@@ -84,11 +68,10 @@ class Sealer:
         folder.mkdir()
         files.write(folder / f"certificate-{number}.txt", body)
         before = there[-1].own if there else chain.FIRST
-        text = chain.text(at, self.office, number, chain.digest(body), before, moment, why)
+        text = chain.text(at, self.office, number, chain.digest(body), before, moment, why, self.head())
         files.write(folder / "seal.txt", text)
-        tool("ssh-keygen", "-q", "-Y", "sign", "-f", str(self.key), "-n", SPACE, str(folder / "seal.txt"))
-        # read back as ssh-keygen wrote it, and then on the disk
-        files.write(folder / "seal.txt.sig", (folder / "seal.txt.sig").read_bytes())
+        for key in self.keys:
+            key.sign(folder, number)
         done = self.seals / f"{at:06}"
         os.rename(folder, done)
         files.sync(self.seals)
@@ -120,8 +103,8 @@ def sign_anew(certificates: pathlib.Path, sealer: Sealer, withdrawn: pathlib.Pat
     A text that is in the seals alone is not signed again: whoever has such a key may have put it there.
     """
     with files.locked(sealer.seals):
-        there, gone, new = sealer.chain(), keys_in(withdrawn), 0
-        good = {(it.certificate, it.digest) for it in there if signer(it) not in gone}
+        there, gone, new = sealer.chain(), ssh.keys_in(withdrawn), 0
+        good = {(it.certificate, it.digest) for it in there if not signers(it) & gone}
         sealed = {(it.certificate, it.digest) for it in there}
         for number, file in fetching.kept(certificates).items():
             body = file.read_bytes()

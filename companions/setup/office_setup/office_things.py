@@ -18,7 +18,7 @@ ALWAYS = ("office@{}.service", "office-gate@{}.socket", "office-gate@{}.service"
           "office-journal-check@{}.timer")
 OF_VAULT = ("office-vault@{}.service", "office-vault-sweep@{}.timer", "office-vault-check@{}.timer",
             "office-vault-mirror@{}.timer")
-OF_SEALS = ("office-certificates@{}.timer",)
+OF_SEALS = ("office-certificates@{}.timer", "office-renew@{}.timer")
 OF_YEAREND = ("office-yearend@{}.timer",)
 ALL = "office-all@{}.target"
 """what stops and starts all units of an office at once"""

@@ -64,7 +64,7 @@ def nightly(world: World, *more: object) -> tuple[int, str]:
              "--copies", world.folder / "copies", *more]
     done = subprocess.run(list(map(str, words)), capture_output=True, text=True, check=False,
                           env=os.environ | {"PATH": f"{world.folder / 'bin'}:{os.environ['PATH']}"})
-    same("no file of it stays", [*(world.folder / "work").iterdir()], [])
+    same("no file of it stays but the head", {it.name for it in (world.folder / "work").iterdir()} - {"head"}, set())
     return done.returncode, done.stdout + done.stderr
 
 
@@ -91,6 +91,8 @@ def agree(world: World) -> None:
     """The acts between two copies give the second one, though acts went on as it was taken, and since."""
     status, said = nightly(world)
     judge("the copies and the journal agree", status == 0 and "differences: 0" in said and "lines: " in said, said)
+    judge("the head of the journal is kept for the seals",
+          f"head {(world.folder / 'work/head').read_text().strip()}, heads compared" in said, said)
     judge("all acts between are done once more", int(said.split("requests: ")[1].split(",")[0]) > 4, said)
 
 

@@ -25,6 +25,7 @@ MAIL = {"office-failed@.service": 6.5, "office-overdue-mail@.service": 6.5, "off
 EXPOSED = {**MAIL, "office-certificates@.service": 0.6, "office-compact@.service": 1.1,
            "office-etcd-defrag.service": 1.3, "office-etcd.service": 1.5, "office-gate@.service": 1.7, "office-intake@.service": 1.3,
            "office-journal-check@.service": 1.1, "office-member-nightly@.service": 1.5, "office-member@.service": 1.3,
+           "office-renew@.service": 1.4,
            "office-sign-in-gates.service": 2.0, "office-sign-in.service": 1.5, "office-stamp@.service": 1.4,
            "office-vault-check@.service": 0.6, "office-vault-mirror@.service": 0.6, "office-vault-sweep@.service": 0.6,
            "office-vault@.service": 0.6, "office-yearend@.service": 1.3, "office@.service": 0.8}

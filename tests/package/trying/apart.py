@@ -15,6 +15,7 @@ FOLDERS = ["/var/lib/office", "/var/lib/office-backups", "/var/lib/office-catalo
 JOURNAL = "/var/log/office/NAME.journal"
 KEYS = ["/etc/office/NAME.key", "/etc/office/NAME.token", "/etc/office/NAME.access", "/etc/office/NAME.withdrawn",
         "/etc/office/NAME.recipients", "/etc/office/NAME.tsa.pem", "/etc/office/NAME.intake-login",
+        "/etc/office/NAME.cades.key", "/etc/office/NAME.cades.pem",
         JOURNAL, "/etc/nginx/office/gate_tokens.conf"]
 # what a unit sees of each office
 OF_EACH = {"KEYS": KEYS, "JOURNALS": [JOURNAL]}
@@ -35,7 +36,8 @@ SEES = {
     "office-overdue": ["office", "office-registers", "gate_tokens.conf"],
     "office-overdue-mail": ["office-registers"],
     "office-scrub": ["office-backups"],
-    "office-seal": ["office-certificates", "office-seals", "NAME.withdrawn"],
+    "office-renew": ["office-seals", "NAME.tsa.pem"],
+    "office-seal": ["office-certificates", "office-seals", "NAME.withdrawn", "NAME.cades.pem"],
     "office-stamp": ["office-seals", "NAME.tsa.pem"],
     "office-vault": ["office-vaults"],
     "office-vault-check": ["office-vaults"],
@@ -65,7 +67,7 @@ ExecReload=
 
 def planted() -> str:
     """The commands that put a file into each folder, of two offices."""
-    commands = ["mkdir -p /etc/nginx/office /var/log/office; touch /etc/office/city.mail /etc/office/city.stamp /etc/office/city.intake"]
+    commands = ["mkdir -p /etc/nginx/office /var/log/office; touch /etc/office/city.mail /etc/office/city.stamp /etc/office/city.seal /etc/office/city.intake"]
     for name in ("city", "court"):
         commands += [f"mkdir -p {it}/{name}; touch {it}/{name}/planted; chmod -R a+rX {it}" for it in FOLDERS]
         commands += [f"touch {it.replace('NAME', name)}; chmod a+r {it.replace('NAME', name)}" for it in KEYS]
@@ -105,14 +107,14 @@ def judge_apart(booted: "Booted") -> None:
     judge("systemd: each unit has a line that says what it sees", set(units) <= set(SEES), sorted(set(units) - set(SEES)))
     for unit in [it for it in units if it in SEES]:
         # what names ports and addresses is no secret
-        seen = {it for it in looked(booted, unit) if not re.fullmatch(r"/etc/office/\w+\.(conf|mail|stamp|intake)", it)}
+        seen = {it for it in looked(booted, unit) if not re.fullmatch(r"/etc/office/\w+\.(conf|mail|stamp|seal|intake)", it)}
         if unit == "office-gate":
             # tokens that only nginx's master reads are hidden
             judge(f"systemd: {unit}@ sees its own office, and journals", seen == of(unit) - {KEYS[-1]}, sorted(seen ^ of(unit)))
         else:
             judge(f"systemd: {unit}@ sees what it needs of its office, and nothing of another", seen == of(unit),
                   sorted(seen ^ of(unit)))
-    booted.run("; ".join(f"rm -f {it}/*/planted" for it in FOLDERS) + "; rm -f /etc/office/city.stamp /etc/office/city.intake; "
+    booted.run("; ".join(f"rm -f {it}/*/planted" for it in FOLDERS) + "; rm -f /etc/office/city.stamp /etc/office/city.seal /etc/office/city.intake; "
                "rm -rf /var/lib/office*/court /var/cache/private/office-journal-check; chmod 700 /var/cache/private; "
                "rm -f "
                + " ".join(it.replace("NAME", name) for it in KEYS for name in ("city", "court")))

@@ -108,6 +108,9 @@ def judge_stamped(booted: "Booted") -> None:
     booted.run("install -m 644 /root/authority/ca.pem /etc/office/town.tsa.pem; "
                "echo STAMP_CA=/etc/office/town.tsa.pem >>/etc/office/town.stamp")
     judge_started(booted, "with STAMP_CA each seal has a stamp", "office-stamp@town", ("success 0", "stamps: 2"))
+    judge_started(booted, "two days before the authority's certificate ends its renewals are of no use, and somebody gets to know",
+                  "office-renew@town", ("exit-code 3", "ends no later"))
+    judge_reported(booted, "office-renew@town")
     booted.run("systemctl stop authority")
 
 

@@ -11,8 +11,8 @@ from setup_trial.room import SITE, Entry, Room
 UNITS = {f"{name}@city.{kind}" for kind, names in (
     ("service", ("office", "office-gate", "office-vault")), ("socket", ("office-gate",)),
     ("timer", ("office-catalogue", "office-backup", "office-scrub", "office-compact", "office-overdue",
-               "office-journal-check", "office-certificates", "office-vault-sweep", "office-vault-check",
-               "office-vault-mirror")), ("target", ("office-all",))) for name in names}
+               "office-journal-check", "office-certificates", "office-renew", "office-vault-sweep",
+               "office-vault-check", "office-vault-mirror")), ("target", ("office-all",))) for name in names}
 PEOPLE = ("auditor", "deputy", "legal", "manager", "registrar")
 PASSWORD = re.compile(r"a first password, shown this once: (\S+) (\S+)")
 SECRETS = {"/etc/office/city.token": ("root", "office-gate", 0o640), "/etc/office/city.key": ("root", "root", 0o600),
