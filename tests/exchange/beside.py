@@ -1,0 +1,1 @@
+def beside(folder): pass

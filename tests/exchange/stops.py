@@ -1,0 +1,2 @@
+def stops(folder): pass
+def full(folder): pass
