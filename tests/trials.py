@@ -58,7 +58,7 @@ LANDING = [
               gone=200, kinds=200, site=200, stamps=300, clocks=300, strangers=300, stamped=300, ended=300, lost=300,
               words=300, bytes_of_a_seal=300, years=400, beside=300, thousand=400, mail=200),
     *parts_of("env HISTORIES=1 RECORDS=2000 tests/exchange/run", EXCHANGE, same=300, form=200, beside=200, bytes=200,
-              forged=200, wrong=300, stops=300, full=200, many=200),
+              forged=200, wrong=300, stops=300, order=100, full=200, many=200),
     Trial("tests/intake/run", "a folder and a mailbox come in, and come in again", needs="program nodejs", limit=400),
     Trial("tests/yearend/run", "lists of the year's end go on their day alone", needs=f"{GATE} faketime", limit=400),
     Trial("tests/registers/run", "both registers, read back by others", needs="program miller sqlite3", limit=200),

@@ -47,5 +47,6 @@ def by_command(folder: pathlib.Path, bag: pathlib.Path) -> None:
         data[len(data) // 2] ^= 1
         (wrong / name).write_bytes(data)
         before = names_in(folder)
-        judge_refused(f"a bit of {name}", back(wrong, folder / "new.db", OFFICE=program), name.partition("-")[0])
+        part = name.partition("-")[0] if name != "tagmanifest-sha256.txt" else "another SHA-256"
+        judge_refused(f"a bit of {name}", back(wrong, folder / "new.db", OFFICE=program), part)
         same(f"what is left ({name})", names_in(folder), before)

@@ -8,8 +8,9 @@ import re
 from collections.abc import Callable
 from typing import Any, NamedTuple
 
+from kit.commands import OFFICE
 from kit.judging import judge, same
-from place import back, copied, digest, judge_refused, names_in, seal, small_bag, unjudging
+from place import back, back_here, copied, digest, judge_refused, names_in, seal, small_bag, unjudging
 
 Change = Callable[[pathlib.Path], object]
 
@@ -104,6 +105,8 @@ LINES = (
     Case("a code that ends in a line feed", member("classes.jsonl", 1, schedule="A\n"), ("classes.jsonl, line 2", "schedule is")),
     Case("a text of 201 bytes", member("records.jsonl", 1, title="é" * 100 + "x"), (SECOND, "title is")),
     Case("half of a review", member("records.jsonl", 1, review={"day": "2024-01-02", "by": None}), (SECOND, "by is None")),
+    Case("a length that is not that of the content", replaced("records.jsonl", '"length":[0-9]+(?=[^\n]*"status":"here")', '"length":1'),
+         ("the bag has not the content of record",)),
     Case("a digest in capitals", member("records.jsonl", 1, digest="A" * 64), (SECOND, "digest is")),
     Case("a number twice", lines("aggregations.jsonl", lambda every: [every[0], *every]), ("those of no office",)),
     Case("a ref twice", lines("aggregations.jsonl", lambda every: [*every, every[0].replace(b'"number":1,', b'"number":999,')]),
@@ -126,7 +129,7 @@ BYTES = (
          ("has what would not be in it", "data/files/")),
     Case("a certificate of no run", added("certificates/99.txt"), ("office: fault 33",), True),
     Case("a certificate with another name", lambda bag: (bag / "data/certificates/1.txt").rename(bag / "data/certificates/01.txt"),
-         ("certificates/1.txt",)),
+         ("certificate 1: it is missing",)),
     Case("a certificate by no number", added("certificates/x.txt"), ("data/certificates/x.txt is no certificate",)),
     Case("a file of no kind", added("notes.txt"), ("has what would not be in it", "data/notes.txt")),
     Case("another page", lambda bag: (bag / "README.txt").write_text("x"), ("README.txt",)),
@@ -173,6 +176,7 @@ MANIFESTS: tuple[tuple[str, Change, str], ...] = (
     ("a file outside of the folder", lambda bag: manifest(bag, "data/z/../../../etc/passwd"), "data/z/../../../etc/passwd is missing"),
     ("a file of the machine", lambda bag: manifest(bag, "/etc/passwd"), "no line of a manifest"),
     ("a file twice", lambda bag: manifest(bag, "data/runs.jsonl"), "no line of a manifest"),
+    ("a file that no manifest has", lambda bag: (bag / "data/extra").write_text("x"), "no manifest has data/extra"),
     ("no manifest", lambda bag: (bag / "manifest-sha256.txt").unlink(), "it has no manifest-sha256.txt"),
     ("no declaration", lambda bag: (bag / "bagit.txt").unlink(), "it has no bagit.txt"),
     ("another declaration", lambda bag: (bag / "bagit.txt").write_text("BagIt-Version: 0.97\n"), "bagit.txt"),
@@ -206,11 +210,12 @@ def forged(folder: pathlib.Path) -> None:
         wrong = copied(bag, folder / "wrong")
         case.change(wrong)
         seal(wrong)
-        env = {} if case.is_judged else {"OFFICE": program}
-        judge_refused(case.name, back(wrong, work / "new.db", **env), *case.parts)
+        own = OFFICE if case.is_judged else program
+        judge_refused(case.name, back_here(wrong, work / "new.db", program=own), *case.parts)
         same(f"what is left of {case.name}", names_in(work), [])
     for name, change, part in MANIFESTS:
         wrong = copied(bag, folder / "wrong")
         change(wrong)
-        judge_refused(name, back(wrong, work / "new.db", OFFICE=program), part)
+        judge_refused(name, back_here(wrong, work / "new.db", program=program), part)
+    judge_refused("the last one by the command", back(wrong, work / "new.db", OFFICE=program), MANIFESTS[-1][2])
     judge("the folder as it is comes back by that program too", back(bag, work / "new.db", OFFICE=program).status == 0)

@@ -33,6 +33,20 @@ def members_on_page() -> dict[str, set[str]]:
     return members
 
 
+ORDERS = {"schedules": ("code",), "classes": ("code",), "aggregations": ("number",), "records": ("number",),
+          "events": ("record",), "holds": ("code",), "runs": ("number",), "entries": ("run", "record"), "lacking": ("record",)}
+
+
+def ordered(bag: pathlib.Path) -> None:
+    """The lines are in the order of the page."""
+    for name, keys in ORDERS.items():
+        lines = [json.loads(line) for line in (bag / f"data/{name}.jsonl").read_text().splitlines()]
+        same(f"the order of {name}", lines, sorted(lines, key=lambda line: [line[key] for key in keys]))
+    targets = [json.loads(line) for line in (bag / "data/targets.jsonl").read_text().splitlines()]
+    wanted = sorted(targets, key=lambda line: (line["hold"], line["kind"], len(line["target"]), line["target"]))
+    same("the order of targets", targets, wanted)
+
+
 def form(folder: pathlib.Path) -> None:
     bag = small_bag(folder)
     schemas = json.loads((bag / "schema.json").read_text())
@@ -54,6 +68,7 @@ def form(folder: pathlib.Path) -> None:
         if name == "data/office.json":
             wanted -= {each for each in wanted if each.startswith("counts.")}
         same(f"the members of {name} on the page", sorted(page[name]), sorted(wanted))
+    ordered(bag)
     readme = (bag / "README.txt").read_text()
     judge("the page of the bag names each file", all(name in readme for name in schemas), readme)
     for manifest in ("manifest-sha256.txt", "tagmanifest-sha256.txt"):

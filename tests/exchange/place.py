@@ -1,15 +1,22 @@
 """What the parts share: both commands, offices and bags, and a program that judges nothing."""
 from __future__ import annotations
 
+import contextlib
 import functools
 import hashlib
+import importlib.machinery
+import importlib.util
+import io
 import json
+import os
 import pathlib
 import re
 import shutil
 import sqlite3
 import sys
 import tempfile
+from types import ModuleType
+from unittest import mock
 
 from kit.commands import TOP, Done, office, run
 from kit.companions import companion
@@ -30,6 +37,26 @@ def export(*arguments: object, **env: str) -> Done:
 def back(*arguments: object, **env: str) -> Done:
     """Runs office-import."""
     return run(companion("office-import"), *arguments, **env)
+
+
+@functools.cache
+def loaded(name: str) -> ModuleType:
+    """Loads a command as a module."""
+    loader = importlib.machinery.SourceFileLoader(name.replace("-", "_"), str(companion(name)))
+    spec = importlib.util.spec_from_loader(loader.name, loader)
+    assert spec
+    module = importlib.util.module_from_spec(spec)
+    loader.exec_module(module)
+    return module
+
+
+def back_here(*arguments: object, program: str) -> Done:
+    """Runs office-import in this process, which is much quicker for many folders."""
+    out, error = io.StringIO(), io.StringIO()
+    with mock.patch.dict(os.environ, OFFICE=program), mock.patch("office_common.command.end_by_signals"), \
+            contextlib.redirect_stdout(out), contextlib.redirect_stderr(error):
+        status = loaded("office-import").main([str(each) for each in arguments])
+    return Done(status, out.getvalue(), error.getvalue())
 
 
 def rows(file: pathlib.Path) -> dict[str, list[tuple[object, ...]]]:

@@ -114,12 +114,20 @@ def damaged(folder: pathlib.Path, file: pathlib.Path) -> None:
     base.commit()
     base.close()
     done = export(copy, folder / "lacks")
-    judge("damaged contents are named", done.status == 1 and done.error.splitlines()[:2] == [
-        f"office-export: left out: record {number}: its content is damaged" for number in some]
+    judge("damaged contents are named", done.status == 1 and sorted(done.error.splitlines()) == sorted(
+        f"office-export: left out: record {number}: its content is damaged" for number in some)
         and "left out 2" in done.out and "lacking 2" in done.out, done)
     judge_refused("no office is made without them", back(folder / "lacks", folder / "n.db"), "contents that were damaged",
                   f"2, of records {some[0]}, {some[1]}")
     judge("nothing was made of it", not (folder / "n.db").exists())
+    shutil.copy(file, copy)
+    base = sqlite3.connect(copy)
+    base.execute("UPDATE certificates SET body = replace(body, 'BY ', 'BY Not ') WHERE run = 1")
+    base.commit()
+    base.close()
+    done = export(copy, folder / "certificate")
+    judge("a certificate that somebody changed is named", done.status == 1 and done.error.count("\n") == 1
+          and "not as it should be: certificate 1: its line 'BY Not" in done.error, done)
     shutil.copy(file, copy)
     base = sqlite3.connect(copy)
     base.execute("UPDATE records SET originated = 99999999 WHERE num = 1")

@@ -29,6 +29,7 @@ class Outcome(NamedTuple):
     lacking: list[str]
     total: int
     """the things that are not in the bag, also those without a sentence"""
+    lacks_files: bool
 
 
 class Export:
@@ -148,7 +149,8 @@ def export(source: Source, sink: Sink) -> Outcome:
                [("README.txt", readme.TEXT.encode()), ("schema.json", schemas())])
     for name in foreign(source.tables):
         work.lack(f"{name} is no part of an office")
-    return Outcome(work.counts, work.lacking, work.total)
+    lacks_files = source.tables.execute("SELECT count(*) FROM temp.lacks WHERE what = 'file'").fetchone() != (0,)
+    return Outcome(work.counts, work.lacking, work.total, lacks_files)
 
 
 def schemas() -> bytes:

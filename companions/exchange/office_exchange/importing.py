@@ -104,12 +104,19 @@ def bodies(folder: Path) -> Iterator[tuple[int, str]]:
             raise bag.differs(f"data/certificates/{file.name} is no text") from error
 
 
-def opened(path: str, file: Path) -> None:
-    """Has the program open a file. Refused has the program's answer if the file is no office."""
+def init(path: str, file: Path) -> str:
+    """Has the program open a file, and make it if it is missing. Returns what the program says if it does not."""
     done = subprocess.run([path, "init", str(file)], stdin=subprocess.DEVNULL, stdout=subprocess.DEVNULL,
                           stderr=subprocess.PIPE, text=True, errors="replace", check=False)
-    if done.returncode:
-        raise Refused(WRONG, f"the lines are those of no office: {path} answers {done.stderr.strip()!r}")
+    if not done.returncode:
+        return ""
+    return " ".join(done.stderr.split()) or f"status {done.returncode}"
+
+
+def opened(path: str, file: Path) -> None:
+    """Has the program open a file. Refused has the program's message if the file is no office."""
+    if message := init(path, file):
+        raise Refused(WRONG, f"the lines are those of no office: {path}: {message}")
     if files.has_acts(files.log_of(file)):
         raise Refused(IMPOSSIBLE, f"{path} did not close the new office: is the disk full?")
 
@@ -131,8 +138,8 @@ def make(folder: Path, file: Path, signers: Path | None) -> list[str]:
     office = read_office(folder)
     check_whole(folder)
     notes = seals.compare(folder, signers)
-    if program.init(path, file):
-        raise Refused(IMPOSSIBLE, f"{path} makes no office in {file.parent}")
+    if message := init(path, file):
+        raise Refused(IMPOSSIBLE, f"{path} makes no office in {file.parent}: {message}")
     fill(file, folder, office["day"])
     opened(path, file)
     compare(file, folder)
