@@ -206,7 +206,7 @@ def forged(folder: pathlib.Path) -> None:
     bag, program = small_bag(folder), unjudging(folder)
     work = folder / "work"
     work.mkdir()
-    for case in (*LINES, *ROWS, *BYTES, *CERTIFICATES):
+    for case in (*LINES, *BYTES, *CERTIFICATES, *ROWS):
         wrong = copied(bag, folder / "wrong")
         case.change(wrong)
         seal(wrong)
