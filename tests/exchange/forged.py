@@ -152,7 +152,7 @@ CERTIFICATES = (
     Case("a certificate whose last line is of another text", edited("certificates/1.txt", lambda data: data[:-66] + b"0" * 65 + b"\n"),
          ("certificate 1", "last line")),
     Case("a certificate that goes on", edited("certificates/1.txt", lambda data: data + b"x\n"), ("certificate 1", "last line")),
-    Case("a certificate that is no text", edited("certificates/1.txt", lambda data: b"\xff" + data), ("certificates/1.txt",)),
+    Case("a certificate that is no text", edited("certificates/1.txt", lambda data: b"\xff" + data), ("certificate 1: it is no text",)),
     Case("an entry that is gone", lines("entries.jsonl", lambda every: every[1:]), ("certificate 1",)),
     Case("an entry that was confirmed by another", replaced("entries.jsonl", '"confirmed_by":"[^"]*"', '"confirmed_by":"Forger"'),
          ("certificate 1", "Forger")),

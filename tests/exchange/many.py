@@ -15,8 +15,8 @@ from kit.judging import judge, same
 from place import digest, files_in, rows, unjudging
 
 RECORDS = int(os.environ.get("RECORDS", "20000"))
-MOST = 64 << 10
-"""kilobytes of the process that exports or imports; Python alone takes some twenty thousand"""
+MOST = 48 << 10
+"""kilobytes of the process that exports or imports, beside the longest certificate; Python alone takes some 20,000"""
 
 
 def peak(*command: object, **env: str) -> tuple[int, int, str]:
@@ -69,6 +69,9 @@ def many(folder: pathlib.Path) -> None:
     done = subprocess.run([OFFICE, "init", filled(folder / "few.db", program, 20)], capture_output=True, check=False)
     judge("the program opens such an office", done.returncode == 0, done)
     file, bag, again = filled(folder / "many.db", program, RECORDS), folder / "bag", folder / "back.db"
+    with sqlite3.connect(file) as base:
+        longest, = base.execute("SELECT max(length(body)) >> 10 FROM certificates").fetchone()
+    base.close()
     began = time.monotonic()
     status, most, error = peak(companion("office-export"), file, bag)
     judge(f"{RECORDS} records leave", status == 0, error)
@@ -76,6 +79,6 @@ def many(folder: pathlib.Path) -> None:
     began = time.monotonic()
     status, most, error = peak(companion("office-import"), bag, again, OFFICE=program)
     judge(f"{RECORDS} records come back", status == 0, error)
-    judge("within the memory that is allowed, too", 0 < most <= MOST, f"{most} KB, {time.monotonic() - began:.0f} seconds", always=True)
+    judge("within the memory that is allowed, too", 0 < most <= MOST + 2 * longest, f"{most} KB, {time.monotonic() - began:.0f} seconds", always=True)
     same("its rows", digest(repr(rows(again)).encode()), digest(repr(rows(file)).encode()))
     judge("each content is a file", len(files_in(bag / "data/contents")) == (RECORDS + 1) // 2)

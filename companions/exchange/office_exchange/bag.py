@@ -5,7 +5,7 @@ import re
 import stat
 from collections.abc import Iterable, Iterator
 from pathlib import Path
-from typing import BinaryIO, Protocol
+from typing import Protocol
 
 from office_common.errors import WRONG, Refused
 
@@ -140,7 +140,13 @@ def raised(error: OSError) -> None:
     raise error
 
 
-def parts_of(file: BinaryIO) -> Iterator[bytes]:
+class Readable(Protocol):
+    """A file, or a value of a table that is read like one."""
+
+    def read(self, length: int, /) -> bytes: ...
+
+
+def parts_of(file: Readable) -> Iterator[bytes]:
     """Reads a file part by part."""
     while part := file.read(PART):
         yield part

@@ -19,7 +19,6 @@ NAMED = """CREATE TEMP TABLE named(digest TEXT, record INTEGER, is_sure INTEGER,
 CREATE TEMP TABLE lacks(record INTEGER, digest TEXT, what TEXT, PRIMARY KEY (record, what, digest)) WITHOUT ROWID"""
 FILES = "SELECT digest, max(is_sure) FROM temp.named GROUP BY digest ORDER BY digest"
 LACKS = "INSERT INTO temp.lacks SELECT record, digest, 'file' FROM temp.named WHERE digest = ? AND is_sure"
-BODIES = "SELECT run, body FROM certificates ORDER BY run"
 
 
 class Outcome(NamedTuple):
@@ -117,8 +116,9 @@ class Export:
     # ---- certificates, and what lies beside the office
 
     def put_certificates(self) -> None:
-        for run, body in self.tables.execute(BODIES):
-            self.sink.put(f"data/certificates/{run}.txt", [str(body).encode()])
+        for run, in self.tables.execute("SELECT run FROM certificates ORDER BY run"):
+            with self.tables.blobopen("certificates", "body", run, readonly=True) as body:
+                self.sink.put(f"data/certificates/{run}.txt", bag.parts_of(body))
             self.counts["certificates"] += 1
 
     def put_attached(self) -> None:

@@ -20,6 +20,7 @@ LONGEST_LINE = 1 << 16
 """bytes; no line of the form is longer"""
 FAST = "PRAGMA journal_mode = OFF; PRAGMA synchronous = OFF; BEGIN"
 """the file is thrown away unless it is whole"""
+CERTIFICATE = "INSERT INTO certificates VALUES (?, CAST(zeroblob(?) AS TEXT))"
 
 
 def read_lines(folder: Path, name: str) -> Iterator[bytes]:
@@ -85,23 +86,23 @@ def fill(file: Path, folder: Path, day: str) -> None:
             for form in TABLES:
                 tables.executemany(form.insertion(), rows(folder, form))
             tables.executemany("INSERT INTO contents VALUES (?, ?)", contents(folder, tables))
-            tables.executemany("INSERT INTO certificates VALUES (?, ?)", bodies(folder))
-        except (sqlite3.IntegrityError, UnicodeEncodeError) as error:
+            put_certificates(tables, folder)
+        except (sqlite3.IntegrityError, OverflowError) as error:
             raise bag.differs(f"the lines are those of no office: {error}") from error
         tables.execute("COMMIT")
         tables.execute("PRAGMA journal_mode = WAL")
 
 
-def bodies(folder: Path) -> Iterator[tuple[int, str]]:
-    """Reads the certificates."""
+def put_certificates(tables: sqlite3.Connection, folder: Path) -> None:
+    """Puts the certificates into their table, part by part: one may have an entry for each record."""
     place = folder / "data/certificates"
-    for file in sorted(place.iterdir()) if place.is_dir() else []:
-        if not file.stem.isascii() or not file.stem.isdigit():
-            raise bag.differs(f"data/certificates/{file.name} is no certificate")
-        try:
-            yield int(file.stem), file.read_bytes().decode()
-        except UnicodeDecodeError as error:
-            raise bag.differs(f"data/certificates/{file.name} is no text") from error
+    for path in sorted(place.iterdir()) if place.is_dir() else []:
+        if not path.stem.isascii() or not path.stem.isdigit():
+            raise bag.differs(f"data/certificates/{path.name} is no certificate")
+        tables.execute(CERTIFICATE, (int(path.stem), path.stat().st_size))
+        with path.open("rb") as file, tables.blobopen("certificates", "body", int(path.stem)) as body:
+            for part in bag.parts_of(file):
+                body.write(part)
 
 
 def init(path: str, file: Path) -> str:
