@@ -8,6 +8,7 @@ SETUP = "program root openssl"
 SIGNIN = "aiohttp slapd openssl"
 PAGE = "program root nginx openssl sqlite3 chromium jsonschema nodejs"
 TOOLS = "program xmllint openssl faketime sqlite3"
+EXCHANGE = "program root strace openssl jsonschema"
 SITES = "program root spaces nginx booted curl slowhttptest"
 SCRIPTS = "program root sqlite3 age zstd"
 SERVE = "program root spaces sqlite3 strace"
@@ -57,6 +58,8 @@ LANDING = [
               gone=200, kinds=200, site=200, stamps=300, clocks=300, strangers=300, stamped=300, ended=300, lost=300,
               words=300, bytes_of_a_seal=300, years=400, renewed=400, forms=300, heads=200,
               beside=300, thousand=400, mail=200),
+    *parts_of("env HISTORIES=1 RECORDS=2000 tests/exchange/run", EXCHANGE, same=600, form=200, beside=300, others=400, bytes=200,
+              forged=300, wrong=300, stops=300, order=100, full=200, many=200),
     Trial("tests/intake/run", "a folder and a mailbox come in, and come in again", needs="program nodejs", limit=400),
     Trial("tests/yearend/run", "lists of the year's end go on their day alone", needs=f"{GATE} faketime", limit=400),
     Trial("tests/registers/run", "both registers, read back by others", needs="program miller sqlite3", limit=200),
@@ -134,6 +137,10 @@ TRIALS = [
     Trial("tests/office_serve/run", "a stop of the service loses nothing", "service words", SERVE, 5),
     Trial("tests/transfer/run", "bags, packages, receipts of a list, seals of certificates", "service", TOOLS, 8),
     Trial("tests/transfer/mutants", "wrong tools and services are found by the trial before", "service", TOOLS, 25),
+    Trial("env HISTORIES=10 RECORDS=200000 tests/exchange/run", "whole offices leave and come back as the same", "service",
+          EXCHANGE, 20, called="exchange"),
+    Trial("tests/exchange/mutants", "wrong exchanges are found by the trial before", "service", EXCHANGE, 20,
+          called="exchange_mutants"),
     Trial("tests/nginx/try", "sites, journal, limits and rules of deploy/nginx", "service", SITES),
     Trial("tests/web/rules", "what the page computes is what the program says", "words wire web", "program nodejs", 1),
     Trial("tests/web/run", "the page in a browser, and openapi.yaml", "web wire", f"{PAGE} firefox poppler"),
