@@ -22,7 +22,7 @@ from offices import Model
 BRING = TOP / "companions/bring/office-bring"
 CONVERT = TOP / "companions/sheets/office-convert"
 SEEDS = int(os.environ.get("SEEDS", "1"))
-MANY = 10 * SEEDS
+MANY = 6 * SEEDS
 """random sources that are only read: they need no program"""
 ACTION = ("trigger", "unit", "count", "offset", "action")
 KEEP = ("added", "days", 0, "none", "keep")
@@ -167,6 +167,30 @@ def write_trim(folder: Path, model: Model, rng: random.Random) -> list[Source]:
 
 SHARE = System(share_model, write_share, ("SHARED",))
 XDOMEA = System(xdomea_model, write_xdomea)
+def alfresco_model(rng: random.Random) -> Model:
+    """Makes folders in categories, without folders in them, and with a rule that the first two categories share."""
+    model = Model()
+    rules: list[offices.Rule] = [(trigger, rng.choice(["days", "weeks", "months", "years"]), rng.randint(1, 40), "none",
+                                  rng.choice(["destroy", "transfer"])) for trigger in ("closed", "origin", "added")]
+    for at, rule in enumerate([rules[0], rules[0], rules[1], rules[2]]):
+        word = f"2009-000000000{at}"
+        model.classes.append(offices.Class(word, f"{word} {offices.title(rng)}", rule))
+    offices.files(rng, model, rng.randint(5, 8), 0)
+    offices.records(rng, model, rng.randint(8, 12))
+    for at, each in enumerate(model.records):
+        opened = next(file.opened for file in model.files if file.ref == each.file)
+        model.records[at] = each._replace(filed=max(each.originated, opened))
+    # a category without a folder is no class
+    model.files = [file._replace(place=at % len(model.classes)) for at, file in enumerate(model.files)]
+    return model
+
+
+def write_alfresco(folder: Path, model: Model, rng: random.Random) -> list[Source]:
+    written.alfresco(folder / "plan.xml", model, rng)
+    return [Source("alfresco", folder / "plan.xml", ("--contents", folder))]
+
+
+ALFRESCO = System(alfresco_model, write_alfresco)
 TRIM = System(trim_model, write_trim)
 SHAREPOINT = System(sharepoint_model, write_sharepoint, ("SITE",))
 
@@ -338,7 +362,21 @@ def trim(folder: Path) -> None:
     both(TRIM, folder)
 
 
+def alfresco(folder: Path) -> None:
+    """A package of Alfresco, with its rules and contents."""
+    both(ALFRESCO, folder)
+
+
 # ---- the parts of a source
+
+
+LOST = {"share": ["owner and rights of an entry"], "plan": ["column Sperrvermerk", "headings, since classes have no hierarchy"],
+        "xdomea": ["Akte/Identifikation/ID", "Akte/AllgemeineMetadaten/Medium@listVersionID", "Dokument/Version/Nummer"],
+        "m365-labels": ["column IsRecordLabel", "column ReviewerEmail", "comments of labels"],
+        "sharepoint": ["column Author", "the day modified, from which no period runs"],
+        "trim": ["column Author", "the day on which a container was registered"],
+        "alfresco": ["content/properties/name", "dispositionSchedule/properties/dispositionAuthority", "recordFolder@childName"]}
+"""some of what is lost of each source, by its names"""
 
 
 def cells_of(path: Path) -> int:
@@ -366,14 +404,15 @@ def counts_in(error: str) -> list[int]:
 
 def sums(folder: Path) -> None:
     """Each part of a source is counted once: in a sheet, lost, or wrong."""
-    for system in (SHARE, XDOMEA, SHAREPOINT, TRIM):
-        for seed in range(6):
+    for system in (SHARE, XDOMEA, SHAREPOINT, TRIM, ALFRESCO):
+        for seed in range(3 * SEEDS):
             place, rng = folder / f"{id(system)}-{seed}", random.Random(seed)
             place.mkdir()
             for source in system.write(place, system.model(rng), rng):
                 done = brought(place, source)
                 whole, *parts = counts_in(done.error)
                 same(f"{source.kind} {seed}: parts", (whole, sum(parts)), (parts_of(source.path), whole))
-                lost = sum(int(row["count"]) for row in rows_in(place / f"out-{source.kind}/lost.csv"))
-                same(f"{source.kind} {seed}: lost parts are listed", lost, parts[1])
+                lost = {row["part"]: int(row["count"]) for row in rows_in(place / f"out-{source.kind}/lost.csv")}
+                same(f"{source.kind} {seed}: lost parts are listed", sum(lost.values()), parts[1])
+                same(f"{source.kind} {seed}: lost parts have names", [name for name in LOST[source.kind] if name not in lost], [])
                 judge(f"{source.kind} {seed}: something is taken", parts[0] > 0, is_quiet=True)

@@ -4,7 +4,6 @@ from __future__ import annotations
 import os
 import random
 import re
-import resource
 import subprocess
 
 from pathlib import Path
@@ -20,7 +19,8 @@ ENTITIES = """<?xml version="1.0"?>
 OUTSIDE = """<?xml version="1.0"?><!DOCTYPE a SYSTEM "file:///etc/passwd"><a/>"""
 FILE = """<?xml version="1.0" encoding="{encoding}"?><a><Akte><AllgemeineMetadaten><Kennzeichen>{ref}</Kennzeichen>
 </AllgemeineMetadaten><Laufzeit><Beginn>2001-02-03</Beginn></Laufzeit></Akte></a>"""
-MEMORY = 400 * 1024 * 1024
+MORE = 16 * 1024
+"""KB that a large message may take more than a small one"""
 MARKUP = ("--class", "K")
 
 
@@ -97,6 +97,17 @@ def tables(folder: Path) -> None:
     is_refused("nothing", "", "is empty")
     is_refused("a column that is not there", good, "no column is named \"x\"", "--column", "title=x")
     is_refused("a name of no column", good, "--column x: there are notation", "--column", "x=Kennzeichen")
+    there = folder / "catalogue"
+    there.mkdir()
+    for name in ("schedules", "classes", "aggregations", "records"):
+        put(there, f"{name}.json", '{"moment": "now", "' + name + '": []}')
+    for name, text in (("classes", '{"moment": "now", "classes": [{"x": 1}]}'), ("records", '{"moment": "now", "records": [[1]]}'),
+                       ("aggregations", "{"), ("schedules", '{"moment": "now"}')):
+        whole = (there / f"{name}.json").read_bytes()
+        put(there, f"{name}.json", text)
+        is_refused(f"a catalogue with other {name}", good, "catalogue", "--catalogue", there)
+        put(there, f"{name}.json", whole)
+    is_refused("no catalogue", good, "of a catalogue in", "--catalogue", folder)
     refused("no file", folder, "plan", folder / "none.csv", "there is no ", *compared.RULES)
     refused("a folder", folder, "plan", folder, "Is a directory", *compared.RULES)
     for encoding, more in (("utf-16", ()), ("utf-8-sig", ()), ("cp1252", ("--encoding", "windows-1252"))):
@@ -148,9 +159,29 @@ def things(folder: Path) -> None:
           ["row 3: it is not in s/l, which --root names", "row 4: it has no path", "row 5: --labels has no label \"Z\"",
            "row 6: its period runs from the day modified, and it has none", "row 7: it has no day of creation",
            "row 8: its ref \"s/l/a.txt\" is that of another record too"], ["s/l"], ["s/l/a.txt"])
+    package(folder)
     refused("items without a root", folder, "sharepoint", items, "say --root PATH")
     refused("a share with levels of a table", folder, "trim", put(folder, "n.csv", "Number,Title,Type,Container,Created\n1,a,F,,2001-01-01\n2,b,F,1,2001-01-01\n"),
             "the ref 1 of a file with others in it is a number", "--class", "K")
+
+
+def package(folder: Path) -> None:
+    """A package of Alfresco with a hold, a schedule of three steps, and nodes that are in no folder."""
+    step = ("<associations><dispositionActionDefinitions>{}</dispositionActionDefinitions></associations>".format("".join(
+        f"<dispositionActionDefinition><properties><dispositionActionName>{name}</dispositionActionName><dispositionPeriod>year|3"
+        "</dispositionPeriod></properties></dispositionActionDefinition>" for name in ("cutoff", "transfer", "destroy"))))
+    made = "<properties><identifier>{0}</identifier><name>n</name><created>2001-02-03T00:00:00Z</created>{1}</properties>".format
+    source = put(folder, "plan.xml", f"""<view><recordCategory>{made("C", "")}<associations><dispositionSchedule><dispositionSchedule>{step}
+        </dispositionSchedule></dispositionSchedule><contains><content>{made("D0", "")}</content><recordFolder><aspects><frozen/></aspects>
+        {made("F", "<isClosed>true</isClosed>")}<associations><contains><content>{made("D", "")}</content><content>{made("D", "")}</content><content>
+        <properties><identifier>E</identifier></properties></content></contains></associations></recordFolder></contains></associations>
+        </recordCategory><recordFolder>{made("G", "")}</recordFolder></view>""")
+    error = named(folder, Source("alfresco", source, ()), [
+        "line 3, content: its ref \"D\" is that of another record too", "line 3, content: it has no day of creation",
+        "line 2, content: it is in no record folder", "line 5, recordFolder: it is in no record category"], ["F"], ["D"])
+    for text in ("category C: its schedule is not read", "folder F: it is closed, and has no day of cut-off", "folder F: it is under a hold"):
+        judge(f"alfresco: {text}", text in error, error, is_quiet=True)
+    same("alfresco: no rule is guessed", [row["schedule"] for row in compared.rows_in(folder / "out-alfresco/classes.csv")], [""])
 
 
 def named(folder: Path, source: Source, faults: list[str], files: list[str], refs: list[str]) -> str:
@@ -189,17 +220,25 @@ def names(folder: Path) -> None:
     same("each entry is counted", compared.counts_in(done.error)[0], compared.parts_of(top))
 
 
-def bounded(folder: Path) -> None:
-    """A large message takes no more memory than its largest file."""
+def memory(folder: Path, count: int) -> int:
+    """Brings a message of so many files in, and returns the most memory that it took, in KB."""
     document = "<Dokument><Identifikation><ID>{}</ID></Identifikation><DatumDesSchreibens>2001-02-03</DatumDesSchreibens></Dokument>"
     akte = ("<Schriftgutobjekt><Akte><AllgemeineMetadaten><Kennzeichen>A{0}</Kennzeichen></AllgemeineMetadaten><Laufzeit><Beginn>2001-02-03"
             "</Beginn></Laufzeit><X>{1}</X><Akteninhalt>{2}</Akteninhalt></Akte></Schriftgutobjekt>\n")
-    with (folder / "message.xml").open("w") as file:
+    with (folder / f"{count}.xml").open("w") as file:
         file.write("<a>")
-        for number in range(400):
+        for number in range(count):
             file.write(akte.format(number, "x" * 200_000, document.format(number)))
         file.write("</a>")
-    done = subprocess.run([str(BRING), "xdomea", folder / "message.xml", "-o", folder / "out", *MARKUP], capture_output=True, text=True,
-                          preexec_fn=lambda: resource.setrlimit(resource.RLIMIT_AS, (MEMORY, MEMORY)), check=False)
-    same("80 MB in bounded memory", (done.returncode, done.stdout), (0, f"{folder / 'out'}: 400 files, 400 records\n"))
+    words = [str(BRING), "xdomea", str(folder / f"{count}.xml"), "-o", str(folder / f"out-{count}"), *MARKUP]
+    process = subprocess.Popen(words, stdout=subprocess.DEVNULL, stderr=subprocess.DEVNULL)
+    _, status, usage = os.wait4(process.pid, 0)
+    process.returncode = os.waitstatus_to_exitcode(status)
+    same(f"a message of {count} files comes in", (process.returncode, len(compared.rows_in(folder / f"out-{count}/records.csv"))), (0, count))
+    return usage.ru_maxrss
 
+
+def bounded(folder: Path) -> None:
+    """A large message takes no more memory than its largest file."""
+    small, large = memory(folder, 20), memory(folder, 300)
+    judge("60 MB take as much memory as 4", large - small < MORE, (small, large), is_quiet=True)

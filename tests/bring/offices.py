@@ -69,10 +69,10 @@ def rules(rng: random.Random, trigger: str, offset: str, actions: tuple[str, ...
     return [*made, ("added", "days", 0, "none", "keep")]
 
 
-def files(rng: random.Random, model: Model, count: int) -> None:
-    """Adds files, some within others, some of them closed: a file in a closed one is closed no later."""
+def files(rng: random.Random, model: Model, count: int, inner: int = 1) -> None:
+    """Adds files, some within others if that is wanted, some closed: a file in a closed one is closed no later."""
     for number in range(1, count + 1):
-        around = rng.choice([None, None, *[each for each in model.files if each.parent is None]])
+        around = rng.choice([None, None, *[each for each in model.files * inner if each.parent is None]])
         opened = (around.opened if around else FIRST) + some_days(rng, 900)
         least = opened + some_days(rng, 700)
         closed = rng.choice([None, least, least])

@@ -201,3 +201,72 @@ def trim(path: Path, model: Model, rng: random.Random) -> None:
     table(path, RECORDS, rows, "\t", "utf-16")
     for each in model.records:
         path.with_name(f"{each.ref}.txt").write_bytes(each.content)
+
+
+# ---- a package of Alfresco
+
+SPACES = {"view": "http://www.alfresco.org/view/repository/1.0", "cm": "http://www.alfresco.org/model/content/1.0",
+          "rma": "http://www.alfresco.org/model/recordsmanagement/1.0"}
+DAY_OF = {"closed": "rma:cutOffAt", "origin": "cm:created", "added": "rma:dateFiled"}
+
+
+def element(name: str, *inner: str) -> str:
+    return f"<{name}>{''.join(inner)}</{name}>"
+
+
+class Alfresco:
+    """Writes a file plan: the first classes are in a category, and one without a schedule has that of the one around it."""
+
+    def __init__(self, model: Model, rng: random.Random) -> None:
+        self.model, self.rng = model, rng
+
+    def node(self, kind: str, properties: dict[str, str], associations: str = "", aspects: str = "") -> str:
+        made = "".join(element(name, escape(text)) for name, text in properties.items() if text)
+        return (f"<{kind} view:childName=\"cm:x\">" + element("view:aspects", "<cm:auditable/>", aspects) + element("view:properties", made)
+                + element("view:associations", associations) + f"</{kind}>")
+
+    def stamp(self, day: datetime.date) -> str:
+        return f"{moment(self.rng, day):%Y-%m-%dT%H:%M:%S.000Z}"
+
+    def schedule(self, rule: tuple[str, str, int, str, str]) -> str:
+        trigger, unit, count, _, action = rule
+        steps = [{"rma:dispositionActionName": "cutoff", "rma:dispositionEvent": "case_closed"}] if trigger == "closed" else []
+        steps.append({"rma:dispositionActionName": action, "rma:dispositionPeriod": f"{unit[:-1]}|{count}",
+                      "rma:dispositionPeriodProperty": DAY_OF[trigger]})
+        inner = "".join(self.node("rma:dispositionActionDefinition", step) for step in steps)
+        return element("rma:dispositionSchedule", self.node(
+            "rma:dispositionSchedule", {"rma:dispositionAuthority": "The law", "rma:recordLevelDisposition": "false"},
+            element("rma:dispositionActionDefinitions", inner)))
+
+    def record(self, each: Record) -> str:
+        return self.node("cm:content", {
+            "cm:name": f"{each.ref}.txt", "cm:title": each.title, "rma:identifier": each.ref, "cm:created": self.stamp(each.originated),
+            "rma:dateFiled": self.stamp(each.filed or each.originated), "cm:content": f"contentUrl=in/{each.ref}.bin|mimetype=text/plain|size=1"},
+            aspects="<rma:record/>")
+
+    def folder(self, file: File) -> str:
+        inner = "".join(self.record(each) for each in self.model.records if each.file == file.ref)
+        return self.node("rma:recordFolder", {
+            "cm:name": file.title, "rma:identifier": file.ref, "cm:created": self.stamp(file.opened),
+            "rma:isClosed": "true" if file.closed else "false", "rma:cutOffAt": self.stamp(file.closed) if file.closed else ""},
+            element("cm:contains", inner))
+
+    def category(self, place: int, inner: str, has_schedule: bool) -> str:
+        each = self.model.classes[place]
+        folders = "".join(self.folder(file) for file in self.model.files if file.place == place)
+        name = {"cm:name": each.title.removeprefix(f"{each.word} "), "rma:identifier": each.word}
+        return self.node("rma:recordCategory", name, (self.schedule(each.rule) if has_schedule else "") + element("cm:contains", inner, folders))
+
+    def package(self) -> str:
+        inner = self.category(1, "", self.model.classes[1].rule != self.model.classes[0].rule)
+        whole = self.category(0, inner, True) + "\n" + "".join(self.category(at, "", True) for at in range(2, len(self.model.classes)))
+        spaces = " ".join(f"xmlns:{name}=\"{space}\"" for name, space in SPACES.items())
+        return f"<?xml version=\"1.0\" encoding=\"UTF-8\"?>\n<view:view {spaces}>\n{whole}\n</view:view>\n"
+
+
+def alfresco(path: Path, model: Model, rng: random.Random) -> None:
+    """Writes the XML of a package, with its contents."""
+    path.write_text(Alfresco(model, rng).package(), encoding="utf-8")
+    (path.parent / "in").mkdir()
+    for each in model.records:
+        (path.parent / f"in/{each.ref}.bin").write_bytes(each.content)

@@ -153,5 +153,5 @@ def main(arguments: Sequence[str]) -> int:
         lock = contextlib.nullcontext() if options.codes is None else files.locked(options.codes.absolute().parent, waits=True)
         with lock:
             return bring(options)
-    status = command.run(NAME, work)
+    status = command.run(NAME, work, (OSError, UnicodeError))
     return USAGE if status > USAGE else status

@@ -3,7 +3,7 @@ from __future__ import annotations
 
 from typing import NamedTuple
 
-from office_bring import m365, plan, share, trim, xdomea
+from office_bring import alfresco, m365, plan, share, trim, xdomea
 from office_bring.how import Bring
 
 TABLE = ("column", "encoding", "cut")
@@ -22,6 +22,7 @@ KINDS = {
     "plan": Kind(plan.bring, (*TABLE, *RULE)),
     "m365-labels": Kind(m365.bring_labels, (*TABLE, "schedule")),
     "sharepoint": Kind(m365.bring_items, (*TABLE, "root", "class", "schedule", "levels", "labels", "contents")),
+    "alfresco": Kind(alfresco.bring, ("schedule", "contents", "prefix")),
     "trim": Kind(trim.bring, (*TABLE, *RULE, "class", "schedules", "contents", "prefix")),
     "xdomea": Kind(xdomea.bring, (*RULE, "class", "versions", "contents", "prefix")),
 }

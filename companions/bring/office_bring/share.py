@@ -61,6 +61,7 @@ class Share:
 
     def __init__(self, top: Path, how: How, brought: Brought) -> None:
         self.top, self.how, self.brought, self.ledger = top, how, brought, brought.ledger
+        self.root = how.root or top.resolve().name
         self.entries = 0
         self.folders: list[tuple[str, ...]] = []
         self.documents: list[Document] = []
@@ -109,7 +110,7 @@ class Share:
         return folder if self.how.levels is None else folder[:self.how.levels - 1]
 
     def ref(self, folder: tuple[str, ...]) -> str:
-        return "/".join((self.how.root or self.top.name, *folder))
+        return "/".join((self.root, *folder))
 
     def add_files(self) -> None:
         """Makes a file of each folder that has a document, and of those around it; each is opened on its least day."""
@@ -120,7 +121,7 @@ class Share:
                 opened[home[:depth]] = min(document.day, opened.get(home[:depth], document.day))
         for folder in sorted(opened):
             ref = self.brought.ref(self.ref(folder))
-            title = self.brought.title(folder[-1] if folder else self.how.root or self.top.name, ref)
+            title = self.brought.title(folder[-1] if folder else self.root, ref)
             parent = self.brought.ref(self.ref(folder[:-1])) if folder else ""
             self.brought.add_file(File(ref, title, "" if folder else self.how.class_code(), parent, opened[folder], ""))
         for folder in self.folders:

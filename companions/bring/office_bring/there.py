@@ -17,10 +17,13 @@ class There:
 
     def __init__(self, folder: Path | None) -> None:
         parts = {name: self.part(folder, name) for name in ("schedules", "classes", "aggregations", "records")}
-        self.schedules = {str(row["code"]): row for row in parts["schedules"]}
-        self.classes = {str(row["code"]): row for row in parts["classes"]}
-        self.files = {str(row["ref"]): row for row in parts["aggregations"]}
-        self.records = {str(row[1]): row for row in parts["records"]}
+        try:
+            self.schedules = {str(row["code"]): {name: row[name] for name in MEMBERS} for row in parts["schedules"]}
+            self.classes = {str(row["code"]): {name: row[name] for name in ("title", "schedule")} for row in parts["classes"]}
+            self.files = {str(row["ref"]): {name: row[name] for name in ("title", "closed")} for row in parts["aggregations"]}
+            self.titles = {str(row[1]): row[2] for row in parts["records"]}
+        except (*catalogue.FAILURES, IndexError) as error:
+            raise Refused(USAGE, f"the catalogue in {folder} lacks {error}") from None
 
     @staticmethod
     def part(folder: Path | None, name: str) -> list[Any]:
@@ -76,10 +79,10 @@ class There:
         return len(same)
 
     def leave_records(self, brought: Brought) -> int:
-        same = [ref for ref in brought.records if ref in self.records]
+        same = [ref for ref in brought.records if ref in self.titles]
         for ref in same:
-            row, made = self.records[ref], brought.records.pop(ref)
+            title, made = self.titles[ref], brought.records.pop(ref)
             brought.events.pop(ref, None)
-            if row[2] != made.title:
-                brought.look(f"record {ref}", f"the office has the title \"{row[2]}\", and the source \"{made.title}\"")
+            if title != made.title:
+                brought.look(f"record {ref}", f"the office has the title \"{title}\", and the source \"{made.title}\"")
         return len(same)
