@@ -57,7 +57,7 @@ LANDING = [
               gone=200, kinds=200, site=200, stamps=300, clocks=300, strangers=300, stamped=300, ended=300, lost=300,
               words=300, bytes_of_a_seal=300, years=400, beside=300, thousand=400, mail=200),
     Trial("tests/intake/run", "a folder and a mailbox come in, and come in again", needs="program nodejs", limit=400),
-    *parts_of("tests/bring/run", "program", share=200, xdomea=200, sharepoint=200, trim=200, alfresco=200, sums=100, markup=100,
+    *parts_of("tests/bring/run", "program", share=200, xdomea=200, sharepoint=200, trim=200, alfresco=200, plans=100, sums=100, markup=100,
               cut=100, tables=100, rows=60, things=60, names=60, bounded=100, by_chance=200, codes=100, days=60, again=200, stopped=100),
     Trial("tests/yearend/run", "lists of the year's end go on their day alone", needs=f"{GATE} faketime", limit=400),
     Trial("tests/registers/run", "both registers, read back by others", needs="program miller sqlite3", limit=200),

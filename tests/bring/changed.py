@@ -13,9 +13,11 @@ from pathlib import Path
 from xml.etree import ElementTree
 
 import compared
-from compared import Source
+import counted
+import systems
 from kit.commands import TOP
 from kit.judging import judge, same
+from systems import Source
 
 sys.path[:0] = [str(TOP / "companions/bring"), str(TOP / "companions")]
 
@@ -41,11 +43,11 @@ def brought(folder: Path, source: Source, path: Path) -> tuple[int, str]:
     """Brings a source in within this process, and returns the status and what was written to standard error."""
     codes = ["--codes", str(folder / "fresh.csv"), "--take-codes"]
     (folder / "fresh.csv").unlink(missing_ok=True)
-    words = [source.kind, path, "-o", folder / "out", *codes, "--skip", "--zone", "Europe/Berlin", *source.options]
+    arguments = [source.kind, path, "-o", folder / "out", *codes, "--skip", "--zone", "Europe/Berlin", *source.options]
     output = io.StringIO()
     with mock.patch("office_common.command.end_by_signals"), contextlib.redirect_stderr(output), contextlib.redirect_stdout(io.StringIO()):
         try:
-            status = main(list(map(str, words)))
+            status = main(list(map(str, arguments)))
         except SystemExit as end:
             status = int(str(end.code))
     return status, output.getvalue()
@@ -54,7 +56,7 @@ def brought(folder: Path, source: Source, path: Path) -> tuple[int, str]:
 def parts_of(path: Path) -> int | None:
     """Counts the parts of a source, None if no other reader takes it."""
     with contextlib.suppress(UnicodeError, csv.Error, ElementTree.ParseError, IndexError):
-        return compared.parts_of(path)
+        return counted.parts_of(path)
     return None
 
 
@@ -67,10 +69,10 @@ def one(name: str, folder: Path, source: Source, data: bytes) -> int:
     if status == 2:
         judge(f"{name}: one line and nothing else", error.count("\n") == 1 and not is_made, error, is_quiet=True)
         return status
-    whole, *parts = compared.counts_in(error)
+    whole, *parts = counted.counts_in(error)
     same(f"{name}: status and sum", (status in (0, 1), is_made, whole), (True, True, sum(parts)))
-    counted = parts_of(path) if source.path.suffix == ".xml" else None
-    same(f"{name}: parts", whole, whole if counted is None else counted)
+    parts_there = parts_of(path) if source.path.suffix in (".xml", ".rdf") else None
+    same(f"{name}: parts", whole, whole if parts_there is None else parts_there)
     shutil.rmtree(folder / "out")
     return status
 
@@ -78,7 +80,7 @@ def one(name: str, folder: Path, source: Source, data: bytes) -> int:
 def by_chance(folder: Path) -> None:
     """Changes the sources of all systems."""
     ends: dict[int, int] = {}
-    for system in (compared.XDOMEA, compared.SHAREPOINT, compared.TRIM, compared.ALFRESCO):
+    for system in (systems.XDOMEA, systems.SHAREPOINT, systems.TRIM, systems.ALFRESCO, systems.GRS, systems.SKOS):
         rng = random.Random(17)
         place = folder / f"{id(system)}"
         place.mkdir()

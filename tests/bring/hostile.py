@@ -5,13 +5,15 @@ import os
 import random
 import re
 import subprocess
-
 from pathlib import Path
 
 import compared
-from compared import BRING, Source
+import counted
+import systems
+from compared import BRING
 from kit.commands import run
 from kit.judging import judge, same
+from systems import Source
 
 ENTITIES = """<?xml version="1.0"?>
 <!DOCTYPE a [<!ENTITY a "aaaaaaaaaa"><!ENTITY b "&a;&a;&a;&a;&a;&a;&a;&a;&a;&a;">]>
@@ -68,23 +70,23 @@ def markup(folder: Path) -> None:
 def cut(folder: Path) -> None:
     """A message that ends after any of its tags, and a table that ends within a line or within quotes."""
     rng = random.Random(7)
-    compared.write_xdomea(folder, compared.xdomea_model(rng), rng)
+    systems.write_xdomea(folder, systems.xdomea_model(rng), rng)
     message = (folder / "message.xml").read_text()
     ends = [match.end() for match in re.finditer(">", message)][:-1]
     for at in [ends[0], ends[-1], *rng.sample(ends, 10)]:
         refused(f"cut at {at}", folder, "xdomea", put(folder, "cut.xml", message[:at]), "no whole XML")
     plan = (folder / "plan.csv").read_bytes()
     for at in [len(plan) - 2, *(at for at in rng.sample(range(60, len(plan)), 8) if plan[at - 1:at] != b"\n")]:
-        refused(f"a plan cut at {at}", folder, "plan", put(folder, "cut.csv", plan[:at]), "", *compared.RULES)
+        refused(f"a plan cut at {at}", folder, "plan", put(folder, "cut.csv", plan[:at]), "", *systems.RULES)
     done = run(BRING, "plan", put(folder, "cut.csv", plan[:-2]), "-o", folder / "whole", "--codes", folder / "codes-2.csv", "--take-codes",
-               "--cut", *compared.RULES)
+               "--cut", *systems.RULES)
     same("--cut takes a plan without an end of its last line", done.status, 0)
 
 
 def tables(folder: Path) -> None:
     """Tables in other encodings, with huge cells, or without the columns of their kind."""
     def is_refused(name: str, data: str | bytes, text: str, *more: object) -> None:
-        refused(name, folder, "plan", put(folder, "plan.csv", data), text, *compared.RULES, *more)
+        refused(name, folder, "plan", put(folder, "plan.csv", data), text, *systems.RULES, *more)
 
     good = "Kennzeichen;Bezeichnung;Aufbewahrungsfrist;Aussonderungsart\r\n10.1;Straße;10 Jahre;V\r\n"
     is_refused("Windows-1252 without a word", good.encode("cp1252"), "line 2: byte DF is not utf-8: say --encoding")
@@ -108,12 +110,12 @@ def tables(folder: Path) -> None:
         is_refused(f"a catalogue with other {name}", good, "catalogue", "--catalogue", there)
         put(there, f"{name}.json", whole)
     is_refused("no catalogue", good, "of a catalogue in", "--catalogue", folder)
-    refused("no file", folder, "plan", folder / "none.csv", "there is no ", *compared.RULES)
-    refused("a folder", folder, "plan", folder, "Is a directory", *compared.RULES)
+    refused("no file", folder, "plan", folder / "none.csv", "there is no ", *systems.RULES)
+    refused("a folder", folder, "plan", folder, "Is a directory", *systems.RULES)
     for encoding, more in (("utf-16", ()), ("utf-8-sig", ()), ("cp1252", ("--encoding", "windows-1252"))):
         place = folder / encoding
         place.mkdir()
-        done = compared.brought(place, Source("plan", put(place, "plan.csv", good.encode(encoding)), compared.RULES), *more)
+        done = compared.brought(place, Source("plan", put(place, "plan.csv", good.encode(encoding)), systems.RULES), *more)
         titles = [row["title"] for row in compared.rows_in(place / "out-plan/classes.csv")]
         same(f"{encoding} is read", (done.status, titles), (0, ["10.1 Straße"]))
 
@@ -122,19 +124,19 @@ def rows(folder: Path) -> None:
     """Rows that are wrong are named, and keep the others from being written unless somebody wants that."""
     source = put(folder, "plan.csv", "Kennzeichen;Bezeichnung;Aufbewahrungsfrist;Aussonderungsart\r\n10.1;a;10 Jahre;V\r\n;b;10 Jahre;V\r\n"
                  "10.2;c;10 Jahre\r\n10.3;d;zehn Jahre;V\r\n10.1;e;5 Jahre;V\r\n10.4;f;10 Jahre;X\r\n10.5;g;10 Jahre;\r\n")
-    done = compared.brought(folder, Source("plan", source, compared.RULES))
+    done = compared.brought(folder, Source("plan", source, systems.RULES))
     same("nothing is written", (done.status, sorted(os.listdir(folder))), (1, ["codes.csv", "plan.csv"]))
     for text in ("wrong: row 3: it has no notation", "wrong: row 4: it has 3 cells, and the header has 4",
                  "wrong: row 6: its class 10-1 has the schedule C-10Y-M1-D above, and C-5Y-M1-D here",
                  "look at row 5, 10.3: its rule is not read: period \"zehn Jahre\"", "look at row 7, 10.4: its rule is not read: action \"X\"",
                  "look at row 8, 10.5: its rule is not whole: say --action"):
         judge(f"named: {text}", text in done.error, done.error, is_quiet=True)
-    done = compared.brought(folder, Source("plan", source, compared.RULES), "--skip")
+    done = compared.brought(folder, Source("plan", source, systems.RULES), "--skip")
     classes = {row["title"]: row["schedule"] for row in compared.rows_in(folder / "out-plan/classes.csv")}
     same("the others are written, and no rule is guessed", (done.status, classes),
          (1, {"10.1 a": "C-10Y-M1-D", "10.3 d": "", "10.4 f": "", "10.5 g": ""}))
-    whole, *parts = compared.counts_in(done.error)
-    same("each cell is counted once", (whole, sum(parts)), (compared.cells_of(source), whole))
+    whole, *parts = counted.counts_in(done.error)
+    same("each cell is counted once", (whole, sum(parts)), (counted.cells_of(source), whole))
     same("wrong rows are listed", [row["place"] for row in compared.rows_in(folder / "out-plan/wrong.csv")], ["row 3", "row 4", "row 6"])
 
 
@@ -161,7 +163,8 @@ def things(folder: Path) -> None:
            "row 8: its ref \"s/l/a.txt\" is that of another record too"], ["s/l"], ["s/l/a.txt"])
     package(folder)
     refused("items without a root", folder, "sharepoint", items, "say --root PATH")
-    refused("a share with levels of a table", folder, "trim", put(folder, "n.csv", "Number,Title,Type,Container,Created\n1,a,F,,2001-01-01\n2,b,F,1,2001-01-01\n"),
+    numbers = put(folder, "n.csv", "Number,Title,Type,Container,Created\n1,a,F,,2001-01-01\n2,b,F,1,2001-01-01\n")
+    refused("a container whose ref is a number", folder, "trim", numbers,
             "the ref 1 of a file with others in it is a number", "--class", "K")
 
 
@@ -169,7 +172,8 @@ def package(folder: Path) -> None:
     """A package of Alfresco with a hold, a schedule of three steps, and nodes that are in no folder."""
     step = ("<associations><dispositionActionDefinitions>{}</dispositionActionDefinitions></associations>".format("".join(
         f"<dispositionActionDefinition><properties><dispositionActionName>{name}</dispositionActionName><dispositionPeriod>year|3"
-        "</dispositionPeriod></properties></dispositionActionDefinition>" for name in ("cutoff", "transfer", "destroy"))))
+        "</dispositionPeriod><dispositionPeriodProperty>cm:created</dispositionPeriodProperty></properties></dispositionActionDefinition>"
+        for name in ("cutoff", "transfer", "destroy"))))
     made = "<properties><identifier>{0}</identifier><name>n</name><created>2001-02-03T00:00:00Z</created>{1}</properties>".format
     source = put(folder, "plan.xml", f"""<view><recordCategory>{made("C", "")}<associations><dispositionSchedule><dispositionSchedule>{step}
         </dispositionSchedule></dispositionSchedule><contains><content>{made("D0", "")}</content><recordFolder><aspects><frozen/></aspects>
@@ -192,8 +196,8 @@ def named(folder: Path, source: Source, faults: list[str], files: list[str], ref
     same(f"{source.kind}: wrong", [line[:len(fault)] for line, fault in zip(lines, faults)] + [len(lines)], [*faults, len(faults)])
     same(f"{source.kind}: the others", (done.status, [row["ref"] for row in compared.rows_in(out / "files.csv")],
                                         [row["ref"] for row in compared.rows_in(out / "records.csv")]), (1, files, refs))
-    whole, *parts = compared.counts_in(done.error)
-    same(f"{source.kind}: each part is counted once", (whole, sum(parts)), (compared.parts_of(source.path), whole))
+    whole, *parts = counted.counts_in(done.error)
+    same(f"{source.kind}: each part is counted once", (whole, sum(parts)), (counted.parts_of(source.path), whole))
     return done.error
 
 
@@ -217,7 +221,7 @@ def names(folder: Path) -> None:
     same("names that no sheet can have are wrong", (done.status, done.error.count("wrong: ")), (1, 3))
     same("the others come in", [row["ref"] for row in compared.rows_in(folder / "out-share/records.csv")], ["top/good.txt"])
     same("links are not followed", "lost: 2 links, which are not followed" in done.error, True)
-    same("each entry is counted", compared.counts_in(done.error)[0], compared.parts_of(top))
+    same("each entry is counted", counted.counts_in(done.error)[0], counted.parts_of(top))
 
 
 def memory(folder: Path, count: int) -> int:
@@ -230,8 +234,8 @@ def memory(folder: Path, count: int) -> int:
         for number in range(count):
             file.write(akte.format(number, "x" * 200_000, document.format(number)))
         file.write("</a>")
-    words = [str(BRING), "xdomea", str(folder / f"{count}.xml"), "-o", str(folder / f"out-{count}"), *MARKUP]
-    process = subprocess.Popen(words, stdout=subprocess.DEVNULL, stderr=subprocess.DEVNULL)
+    arguments = [str(BRING), "xdomea", str(folder / f"{count}.xml"), "-o", str(folder / f"out-{count}"), *MARKUP]
+    process = subprocess.Popen(arguments, stdout=subprocess.DEVNULL, stderr=subprocess.DEVNULL)
     _, status, usage = os.wait4(process.pid, 0)
     process.returncode = os.waitstatus_to_exitcode(status)
     same(f"a message of {count} files comes in", (process.returncode, len(compared.rows_in(folder / f"out-{count}/records.csv"))), (0, count))

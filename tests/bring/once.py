@@ -18,11 +18,13 @@ from zoneinfo import ZoneInfo
 
 import compared
 import offices
+import systems
 import written
-from compared import BRING, RULES, Source
+from compared import BRING
 from kit.commands import OFFICE, TOP, run
 from kit.judging import judge, same
 from kit.office import Office
+from systems import RULES, Source
 
 sys.path[:0] = [str(TOP / "companions/bring"), str(TOP / "companions")]
 
@@ -63,20 +65,20 @@ def looked_at(folder: Path) -> None:
     """New codes are looked at before a sheet is written, and what somebody wrote there counts."""
     plan = folder / "plan.csv"
     plan.write_text(PLAN + "10.1;a;1 Jahr;V\r\n10.2;b;1 Jahr;V\r\n", encoding="utf-8")
-    words = [BRING, "plan", plan, "-o", folder / "out", "--codes", folder / "codes.csv", *RULES]
-    done = run(*words)
+    arguments = [BRING, "plan", plan, "-o", folder / "out", "--codes", folder / "codes.csv", *RULES]
+    done = run(*arguments)
     same("codes alone are written", (done.status, sorted(os.listdir(folder)), (folder / "codes.csv").read_text()),
          (1, ["codes.csv", "plan.csv"], TABLE + "10.1,10-1,new\n10.2,10-2,new\n"))
-    same("as often as it is called", (run(*words).status, (folder / "out").exists()), (1, False))
+    same("as often as it is called", (run(*arguments).status, (folder / "out").exists()), (1, False))
     (folder / "codes.csv").write_text(TABLE + "10.1,FENCES,\n10.2,10-2,\n")
-    same("then the sheets are", run(*words).status, 0)
+    same("then the sheets are", run(*arguments).status, 0)
     same("with the codes of the table", [row["code"] for row in compared.rows_in(folder / "out/classes.csv")], ["FENCES", "10-2"])
     same("and the table stays", (folder / "codes.csv").read_text(), TABLE + "10.1,FENCES,\n10.2,10-2,\n")
     for text, reason in (("x", "the first row is not"), (TABLE + "a\n", "write WORD,CODE"), (TABLE + "a,B C,\n", "is no code"),
                          (TABLE + f"a,{'B' * 17},\n", "is no code"), (TABLE + "a,B,\na,C,\n", "has another code above"),
                          (TABLE + "a,B,old\n", "write WORD,CODE"), (TABLE + "a,\"B\n", "line "), (b"\xff", "is not UTF-8")):
         (folder / "codes.csv").write_bytes(text if isinstance(text, bytes) else text.encode())
-        done = run(*words)
+        done = run(*arguments)
         judge(f"a table of codes: {reason}", done.status == 2 and reason in done.error and done.error.count("\n") == 1, done, is_quiet=True)
 
 
@@ -89,8 +91,8 @@ def at_once(folder: Path) -> None:
         calls.append(subprocess.Popen([BRING, "plan", source, "-o", folder / f"out-{number}", "--codes", folder / "codes.csv",
                                        "--take-codes", *RULES], stdout=subprocess.DEVNULL, stderr=subprocess.DEVNULL))
     same("all of them end", [call.wait() for call in calls], [0] * 4)
-    words = [row["word"] for row in compared.rows_in(folder / "codes.csv")]
-    same("each word is there once", sorted(words), sorted(f"{each}.{number}" for each in range(20) for number in range(2)))
+    noted = [row["word"] for row in compared.rows_in(folder / "codes.csv")]
+    same("each word is there once", sorted(noted), sorted(f"{each}.{number}" for each in range(20) for number in range(2)))
     same("two plans of the same words have the same classes", (folder / "out-0/classes.csv").read_bytes(),
          (folder / "out-2/classes.csv").read_bytes())
 
@@ -131,7 +133,7 @@ def days(folder: Path) -> None:
     moments()
     zone = ZoneInfo("Europe/Berlin")
     for text, wanted in (("2024-12-31", "2024-12-31"), ("2024-12-31T23:30:00", "2024-12-31"), ("2024-12-31Z", "2024-12-31"),
-                         ("2024-12-31T23:30:00Z", "2025-01-01"), ("2024-12-31 23:30", "2024-12-31"), ("2024-02-30", "wrong"), ("", ""),
+                         ("2024-12-31T23:30:00Z", "2025-01-01"), ("2024-12-31T23:30:00.0000000Z", "2025-01-01"), ("2024-12-31 23:30", "2024-12-31"), ("2024-02-30", "wrong"), ("", ""),
                          ("31.12.2024", "wrong"), ("2024", "wrong"), ("2024-12-31T99:30:00Z", "wrong"), ("yesterday", "wrong"),
                          ("0001-01-01T00:00:00+14:00", "wrong")):
         same(f"the day of {text!r}", day_of(Days(zone, None), text), wanted)
@@ -176,8 +178,8 @@ def catalogue_of(folder: Path) -> Path:
 def again(folder: Path) -> None:
     """A second bringing of the same source brings nothing twice, and one of a source that grew brings what is new."""
     rng = random.Random(11)
-    model = compared.xdomea_model(rng)
-    sources = compared.write_xdomea(folder, model, rng)
+    model = systems.xdomea_model(rng)
+    sources = systems.write_xdomea(folder, model, rng)
     for source in sources:
         compared.brought(folder, source)
     with Office(folder / "office.db") as served:
@@ -240,17 +242,17 @@ def stopped(folder: Path) -> None:
     """Kills, and writes that fail, leave the folder whole or not there."""
     plan = folder / "plan.csv"
     plan.write_text(PLAN + "".join(f"{number};x;{number % 90 + 1} Jahre;V\r\n" for number in range(3000)), encoding="utf-8")
-    words = [str(BRING), "plan", str(plan), "-o", str(folder / "out"), "--codes", str(folder / "codes.csv"), "--take-codes", *RULES]
+    arguments = [str(BRING), "plan", str(plan), "-o", str(folder / "out"), "--codes", str(folder / "codes.csv"), "--take-codes", *RULES]
     began = time.monotonic()
-    whole = subprocess.run(words, capture_output=True, check=False)
+    whole = subprocess.run(arguments, capture_output=True, check=False)
     took = time.monotonic() - began
     sheets = {file.name: file.read_bytes() for file in (folder / "out").iterdir()}
     same("the whole", (whole.returncode, sorted(sheets)), (0, ["classes.csv", "rules.csv"]))
-    same("a second call finds it there", (run(*words).status, "has them already" in run(*words).out), (0, True))
+    same("a second call finds it there", (run(*arguments).status, "has them already" in run(*arguments).out), (0, True))
     rng = random.Random(13)
     for _ in range(12):
         shutil.rmtree(folder / "out", ignore_errors=True)
-        process = subprocess.Popen(words, stdout=subprocess.DEVNULL, stderr=subprocess.DEVNULL)
+        process = subprocess.Popen(arguments, stdout=subprocess.DEVNULL, stderr=subprocess.DEVNULL)
         time.sleep(rng.uniform(took / 3, took * 1.1))
         process.send_signal(signal.SIGKILL)
         process.wait()
@@ -258,12 +260,12 @@ def stopped(folder: Path) -> None:
         is_whole = not left.exists() or {file.name: file.read_bytes() for file in left.iterdir()} == sheets
         judge("a kill leaves it whole or not there", is_whole, is_quiet=True)
     shutil.rmtree(folder / "out", ignore_errors=True)
-    same("and it comes at last", (run(*words).status, sorted(os.listdir(folder))), (0, ["codes.csv", "out", "plan.csv"]))
+    same("and it comes at last", (run(*arguments).status, sorted(os.listdir(folder))), (0, ["codes.csv", "out", "plan.csv"]))
     shutil.rmtree(folder / "out")
-    done = subprocess.run(words, capture_output=True, text=True, check=False,
+    done = subprocess.run(arguments, capture_output=True, text=True, check=False,
                           preexec_fn=lambda: resource.setrlimit(resource.RLIMIT_FSIZE, (1000, 1000)))
     same("a write that fails", (done.returncode, done.stderr.count("office-bring: "), sorted(os.listdir(folder))),
          (2, 1, ["codes.csv", "plan.csv"]))
     (folder / "out").mkdir()
     (folder / "out/mine.txt").write_text("x")
-    same("what is there is not touched", (run(*words).status, os.listdir(folder / "out")), (2, ["mine.txt"]))
+    same("what is there is not touched", (run(*arguments).status, os.listdir(folder / "out")), (2, ["mine.txt"]))

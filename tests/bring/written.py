@@ -270,3 +270,36 @@ def alfresco(path: Path, model: Model, rng: random.Random) -> None:
     (path.parent / "in").mkdir()
     for each in model.records:
         (path.parent / f"in/{each.ref}.bin").write_bytes(each.content)
+
+
+# ---- plans in SKOS, and schedules of NARA
+
+
+def skos(path: Path, model: Model, rng: random.Random) -> None:
+    """Writes a plan in two languages, with a broader concept and a note about retention, which is no rule."""
+    spaces = ("xmlns:rdf=\"http://www.w3.org/1999/02/22-rdf-syntax-ns#\" xmlns:skos=\"http://www.w3.org/2004/02/skos/core#\"")
+    made = []
+    for at, each in enumerate(model.classes):
+        name = each.title.removeprefix(f"{each.word} ")
+        kind = ("skos:Concept", "") if rng.random() < 0.5 else (
+            "rdf:Description", "<rdf:type rdf:resource=\"http://www.w3.org/2004/02/skos/core#Concept\"/>")
+        made.append(f"<{kind[0]} rdf:about=\"http://example.org/plan#c{at}\">{kind[1]}" + element("skos:notation", escape(each.word))
+                    + f"<skos:prefLabel xml:lang=\"de\">{escape(name)}</skos:prefLabel><skos:prefLabel xml:lang=\"en\">Other</skos:prefLabel>"
+                    "<skos:broader rdf:resource=\"http://example.org/plan#top\"/><skos:scopeNote>10 Jahre</skos:scopeNote>" + f"</{kind[0]}>")
+    made.insert(rng.randint(0, len(made)), "<skos:Concept rdf:about=\"http://example.org/plan#top\"><skos:prefLabel xml:lang=\"de\">Alles"
+                "</skos:prefLabel></skos:Concept>")
+    path.write_text(f"<?xml version=\"1.0\"?>\n<rdf:RDF {spaces}>\n" + "\n".join(made) + "\n</rdf:RDF>\n", encoding="utf-8")
+
+
+def grs(path: Path, model: Model, rng: random.Random) -> None:
+    """Writes schedules in the forms of sentences that are read."""
+    rows = []
+    for each in model.classes:
+        trigger, unit, count, _, action = each.rule
+        text = f"Destroy {count} {unit} after final payment" if trigger == "event" else f"Destroy when {count} {unit} old"
+        text = f"{rng.choice(['Temporary. ', ''])}{text}{rng.choice([', but longer retention is authorized if required for business use', ''])}."
+        if action == "transfer":
+            text = f"Permanent. Transfer legal custody to the National Archives when {count} {unit} old."
+        _, number, item = each.word.split()
+        rows.append((number, item, each.title.removeprefix(f"{each.word} "), text, "DAA-GRS-2013-0003-0001"))
+    table(path, ("GRS Number", "Item Number", "Records Title", "Disposition Instruction", "Disposition Authority"), rows)

@@ -46,6 +46,7 @@ def add_options(parser: argparse.ArgumentParser) -> None:
     parser.add_argument("--class", type=code, metavar="CODE", help="the class of files for which the source names none")
     parser.add_argument("--levels", type=command.number(1, 100), metavar="N", help="so many levels of folders become files")
     parser.add_argument("--contents", type=Path, metavar="DIR", help="the folder of the documents, for the column path")
+    parser.add_argument("--language", metavar="LANGUAGE", help="which labels of skos are titles, such as de")
     parser.add_argument("--labels", type=Path, metavar="FILE", help="the labels of m365-labels, for the days of items")
     parser.add_argument("--schedules", type=Path, metavar="FILE", help="the retention schedules that records of trim name")
     parser.add_argument("--versions", action="store_true", default=None, help="each version and format is a record")
@@ -86,7 +87,7 @@ def how_of(options: argparse.Namespace) -> How:
         raise Refused(USAGE, "--column names a column twice")
     return How(Days(options.zone, options.days), usual, options.root, getattr(options, "class"), options.schedule, dict(columns),
                options.encoding, bool(options.cut), options.levels, bool(options.versions),
-               options.kind == "share" or options.contents is not None, options.labels,
+               options.kind == "share" or options.contents is not None, options.language, options.labels,
                options.schedules)
 
 

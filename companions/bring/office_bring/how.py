@@ -48,6 +48,7 @@ class How:
     levels: int | None = None
     has_versions: bool = False
     with_contents: bool = False
+    language: str | None = None
     labels: Path | None = None
     schedules: Path | None = None
 

@@ -3,7 +3,7 @@ from __future__ import annotations
 
 from typing import NamedTuple
 
-from office_bring import alfresco, m365, plan, share, trim, xdomea
+from office_bring import alfresco, grs, m365, plan, share, skos, trim, xdomea
 from office_bring.how import Bring
 
 TABLE = ("column", "encoding", "cut")
@@ -20,6 +20,8 @@ class Kind(NamedTuple):
 KINDS = {
     "share": Kind(share.bring, ("root", "class", "levels", "contents")),
     "plan": Kind(plan.bring, (*TABLE, *RULE)),
+    "skos": Kind(skos.bring, ("schedule", "language")),
+    "grs": Kind(grs.bring, (*TABLE, "schedule")),
     "m365-labels": Kind(m365.bring_labels, (*TABLE, "schedule")),
     "sharepoint": Kind(m365.bring_items, (*TABLE, "root", "class", "schedule", "levels", "labels", "contents")),
     "alfresco": Kind(alfresco.bring, ("schedule", "contents", "prefix")),
