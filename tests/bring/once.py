@@ -28,11 +28,14 @@ from systems import RULES, Source
 
 sys.path[:0] = [str(TOP / "companions/bring"), str(TOP / "companions")]
 
+from office_bring import alfresco, plan, xdomea  # noqa: E402
+from office_bring.brought import KEEP, Rule  # noqa: E402
 from office_bring.codes import Codes  # noqa: E402
 from office_bring.ledger import Wrong  # noqa: E402
 from office_bring.moments import Days  # noqa: E402
 from office_bring.texts import ref, title  # noqa: E402
 from office_common.errors import Refused  # noqa: E402
+from office_common.facts import PERIODS, WORDS  # noqa: E402
 
 CATALOGUE = TOP / "companions/registers/office-catalogue"
 PLAN = "Kennzeichen;Bezeichnung;Aufbewahrungsfrist;Aussonderungsart\r\n"
@@ -97,9 +100,21 @@ def at_once(folder: Path) -> None:
          (folder / "out-2/classes.csv").read_bytes())
 
 
+def codes_of_rules(folder: Path) -> None:
+    """Each rule has a code of its own, which an office takes, and the terms of the readers are those of an office."""
+    rules = [Rule(trigger, unit, length, offset, action) for trigger in WORDS["trigger"] for unit in WORDS["unit"]
+             for length in (0, 1, 11, PERIODS[unit]) for offset in WORDS["offset"] for action in WORDS["action"] if action != "keep"]
+    made = {rule.code() for rule in [*rules, KEEP]}
+    same("rules have codes of their own", len(made), len(rules) + 1)
+    same("each is a code", [code for code in made if not re.fullmatch("[A-Za-z0-9-]{1,16}", code)], [])
+    terms = {"trigger": {*plan.TRIGGERS, *alfresco.TRIGGERS.values()}, "unit": {*plan.UNITS, *(unit for unit, _ in alfresco.UNITS.values())},
+             "action": {*plan.ACTIONS, *alfresco.ACTIONS.values(), *xdomea.ACTIONS.values()}}
+    same("no reader has another term", {name: terms[name] - set(WORDS[name]) for name in terms}, {name: set() for name in terms})
+
+
 def codes(folder: Path) -> None:
     """A word has one code in all runs."""
-    for part in (code_of_each, looked_at, at_once):
+    for part in (code_of_each, codes_of_rules, looked_at, at_once):
         (folder / part.__name__).mkdir()
         part(folder / part.__name__)
 

@@ -9,10 +9,6 @@ from office_bring import texts
 from office_bring.codes import Codes
 from office_bring.ledger import Ledger, Wrong
 
-TRIGGERS = {"origin": "O", "added": "A", "closed": "C", "last-addition": "L", "review": "R", "event": "E"}
-UNITS = {"days": "D", "weeks": "W", "months": "M", "years": "Y"}
-ACTIONS = {"keep": "K", "review": "R", "transfer": "T", "destroy": "D"}
-
 
 class Rule(NamedTuple):
     """A disposal schedule, whose code is made of itself: the same rule has the same code in all runs."""
@@ -24,12 +20,13 @@ class Rule(NamedTuple):
     action: str
 
     def code(self) -> str:
-        """Returns the code, such as C-10Y-M1-D: closed, ten years, from month 1, destroy."""
+        """Returns the code, such as C-10Y-M1-D: closed, ten years, from month 1, destroy. No two triggers, units or
+        actions begin with the same letter."""
         if self.action == "keep":
             return "KEEP"
         offset = self.offset.replace("from-month-", "M").replace("month", "M").replace("quarter", "Q").replace("none", "")
-        parts = [TRIGGERS[self.trigger], f"{self.length}{UNITS[self.unit]}", offset, ACTIONS[self.action]]
-        return "-".join(part for part in parts if part)
+        parts = [self.trigger[0], f"{self.length}{self.unit[0]}", offset, self.action[0]]
+        return "-".join(part for part in parts if part).upper()
 
 
 KEEP = Rule("added", "days", 0, "none", "keep")
