@@ -35,6 +35,7 @@ GROUPS = (
     Group("companions", ".:copies:exchange:gate:registers:seals:serve:setup:signin:vault"),
     Group("companions/members", ".:.."),
     Group("deploy/packaging"),
+    Group("companions/bring", ".:.."),
     Group("companions/sheets", ".:.."),
     Group("companions/transfer", ".:.."),
     Group("tests/lint", ".:.."),
