@@ -16,6 +16,7 @@ LISTS = {
     "tests/web/mutants": ("tests/web/planted/", "page/"),
     "tests/transfer/mutants": ("tests/transfer/planted", "companions/transfer/", "companions/seals/", "companions/registers/"),
     "tests/intake/mutants": ("tests/intake/planted", "companions/sheets/intak", "companions/sheets/office-intake"),
+    "tests/library/mutants": ("tests/library/planted", "companions/library/"),
     "tests/replicas/mutants": ("tests/replicas/planted/", "companions/members/replica/"),
 }
 """each list, and how the names of the files begin of which it knows"""
