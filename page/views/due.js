@@ -4,6 +4,7 @@ import { made, translate } from "../page.js";
 import { isConfirmDays, isDay, today } from "../plain/forms.js";
 import { DUE, overdueAmong } from "../plain/lists.js";
 import { t } from "../texts.js";
+import { showLaws } from "./laws.js";
 import { RecordList } from "./list.js";
 import { Deciding } from "./list_deciding.js";
 import { USUAL_DAYS } from "./overdue.js";
@@ -25,6 +26,7 @@ const list = new RecordList({
   },
   shown() {
     tellOverdue();
+    showLaws(list.part("laws"), list.rows);
     deciding.shown();
   },
   marked: () => deciding.marked(),
@@ -59,6 +61,7 @@ function addOverdue() {
   place.append(
     made("div", { "data-field": "confirmDays", id: "due-count" }),
     made("p", { role: "status" }, made("a", { id: "due-overdue" })),
+    made("div", { id: "due-laws" }),
   );
   field(place.firstChild);
   translate(place);

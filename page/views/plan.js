@@ -1,4 +1,5 @@
 // The filing plan: schedules, classes and aggregations, and what classes, aggregations and records get of them later.
+import { isFound, part } from "../catalogue.js";
 import { clear, untick, untickWith } from "../fields.js";
 import { byId, made, sentence } from "../page.js";
 import { dueDay, LONGEST } from "../plain/days.js";
@@ -6,6 +7,7 @@ import { isDay, isNumber, today } from "../plain/forms.js";
 import { hasBirthday } from "../plain/persons.js";
 import { t } from "../texts.js";
 import { begin, stepOf } from "./act_form.js";
+import { showLaws } from "./laws.js";
 import * as forecast from "./plan_forecast.js";
 
 /** Makes the forecast anew: an act that is done may change what it goes by. */
@@ -140,6 +142,7 @@ export function start() {
     const steps = made("div", { class: `steps ${name}` }, ...forms.map(stepOf));
     byId("plan-forms").append(made("h2", {}, t(`plan.${name}`)), steps);
     forms.forEach(begin);
+    if (name === "classes") byId("plan-forms").append(made("div", { id: "plan-laws" }));
   }
   addExample();
   untickWith(byId("plan-close-aggregation"));
@@ -147,8 +150,12 @@ export function start() {
   forecast.start();
 }
 
+/** Shows the law behind the rule of each class that the catalogue has. */
+const tellLaws = async () => showLaws(byId("plan-laws"), ((await part("classes")) ?? []).map(({ code, schedule }) => ({ class: code, schedule })));
+
 /** Shows the forms; the one that closes an aggregation has the number that the address names. */
 export function show(words) {
+  isFound().then(tellLaws);
   const number = words.get("close");
   if (number === null || !isNumber(number)) return;
   const input = byId("plan-close-aggregation");

@@ -16,7 +16,7 @@ from typing import NamedTuple
 
 from office_common import command, files, rights
 from office_common.errors import WRONG
-from office_lists import commands, reported
+from office_lists import commands, laws, reported
 from office_lists.catalogue_queries import DETAIL, FILES
 from office_lists.morning import find_program
 from office_lists.reported import fail
@@ -45,11 +45,11 @@ def closed(text: str) -> Path:
     return copy
 
 
-def make_as_owner(copy: str, folder: Path) -> int:
+def make_as_owner(copy: str, folder: Path, mandates: list[str]) -> int:
     """Makes a catalogue as the owner of its folder. Root opens a copy that this owner may not read, if nobody else
     decides where its path leads."""
     path, owner = Path(copy).absolute(), rights.owner_in(folder.stat())
-    args = [str(Path(sys.argv[0]).resolve()), str(path.resolve()), str(folder)]
+    args = [str(Path(sys.argv[0]).resolve()), str(path.resolve()), str(folder), *mandates]
     if commands.run(["test", "-r", str(path)], owner=owner) == 0:
         return commands.run(args, owner=owner)
     if not rights.is_only_theirs(path, 0):
@@ -145,7 +145,7 @@ def put(new: Path, folder: Path) -> None:
             shutil.rmtree(old)
 
 
-def make(copy: str, target: str) -> int:
+def make(copy: str, target: str, mandates: list[str]) -> int:
     """Makes a catalogue, and returns the exit status."""
     find_program()
     folder = Path(target)
@@ -157,17 +157,20 @@ def make(copy: str, target: str) -> int:
     folder, lent = folder.resolve(), os.environ.get(LENT)
     source = Source(closed(copy), None) if lent is None else Source(Path(copy), int(lent))
     if rights.is_anothers(owner):
-        return make_as_owner(copy, folder)
+        return make_as_owner(copy, folder, [str(Path(path).absolute()) for path in mandates])
     with files.new_folder(folder, f".{NAME}.") as new:
         (new / "files").mkdir()
-        fill(new, readable(source, new), str(source.path), moment_of(source))
+        moment = moment_of(source)
+        fill(new, readable(source, new), str(source.path), moment)
+        for path in mandates:
+            write(new / "files/mandates.json.gz", [f'{{"moment":"{moment}","mandates":\n', laws.entries(Path(path), new), "}\n"])
         put(new, folder)
     return 0
 
 
 def main() -> int:
     """Runs the command, and returns its exit status."""
-    copy, folder = command.operands(f"{NAME} COPY FOLDER", 2, 2)
+    copy, folder, *mandates = command.operands(f"{NAME} COPY FOLDER [MANDATES]", 2, 3)
     command.end_by_signals()
     os.umask(0o027)
-    return WRONG if command.run(NAME, lambda: make(copy, folder), (OSError, sqlite3.Error)) else 0
+    return WRONG if command.run(NAME, lambda: make(copy, folder, mandates), (OSError, sqlite3.Error)) else 0

@@ -12,6 +12,7 @@ from collections.abc import Iterator
 from pathlib import Path
 
 from office_common import command, files
+from office_lists import laws
 from office_lists.morning import Request, fail
 
 OPEN_RUNS = "SELECT 'run ' || num || ', opened on ' || date(day * 86400, 'unixepoch') FROM runs WHERE closed = 0"
@@ -90,11 +91,26 @@ def by_tables(copy: Path, day: str) -> Iterator[str]:
         yield from (" ".join(["   ", *row]) for row in tables.execute(HOLDS, [day]))
 
 
+def by_laws(copy: Path, mandates: Path, day: str) -> Iterator[str]:
+    """Lists which classes have no law, or an old one, if the laws of the office are beside its FILE."""
+    if not mandates.exists():
+        return
+    with contextlib.closing(files.tables_of(copy)) as tables:
+        rows = laws.of_classes(tables, mandates, copy.parent, day)
+        if rows is None:
+            yield line("Laws of the classes", "the file cannot be read: see office-library")
+            return
+        without, old = laws.counts(tables, rows, day)
+    yield line("Classes without a law", without)
+    yield line("Classes whose law is as of two years ago", old)
+
+
 def write(new: Path, request: Request) -> list[Path]:
     """Writes the list of a copy."""
     copy, day, count = new / "copy.db", request.day, request.margin
     try:
-        lines = [f"To do on {day}", "", *by_registers(str(copy), day, count), *by_tables(copy, day)]
+        lines = [f"To do on {day}", "", *by_registers(str(copy), day, count), *by_tables(copy, day),
+                 *by_laws(copy, laws.file_of(request.file), day)]
     except (NoRegister, OSError, sqlite3.Error) as error:
         if not isinstance(error, NoRegister):
             command.report("office-todo", str(error))

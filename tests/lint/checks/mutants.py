@@ -17,6 +17,7 @@ LISTS = {
     "tests/transfer/mutants": ("tests/transfer/planted", "companions/transfer/", "companions/seals/", "companions/registers/"),
     "tests/intake/mutants": ("tests/intake/planted", "companions/sheets/intak", "companions/sheets/office-intake"),
     "tests/bring/mutants": ("tests/bring/planted", "companions/bring/"),
+    "tests/library/mutants": ("tests/library/planted", "companions/library/"),
     "tests/replicas/mutants": ("tests/replicas/planted/", "companions/members/replica/"),
 }
 """each list, and how the names of the files begin of which it knows"""

@@ -32,7 +32,7 @@ class Group(NamedTuple):
 GROUPS = (
     Group("companions/gate", ".:..:../vault"),
     Group("companions/vault", ".:.."),
-    Group("companions", ".:copies:exchange:gate:registers:seals:serve:setup:signin:vault"),
+    Group("companions", ".:copies:exchange:gate:library:registers:seals:serve:setup:signin:vault"),
     Group("companions/members", ".:.."),
     Group("deploy/packaging"),
     Group("companions/bring", ".:.."),
