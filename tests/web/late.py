@@ -141,7 +141,7 @@ class Form:
     def press(self) -> int:
         """Presses the button, with the tick that a lift, a closing and another schedule ask for, and counts what was sent."""
         before = self.story.posted()
-        tick = {"hold-lift": "#hold-sure", "plan-close": "#plan-close-sure", "plan-rule": "#plan-rule-blind"}.get(self.name)
+        tick = {"hold-lift": "#hold-sure", "plan-close": "#plan-close-sure", "plan-rule": "#plan-rule-forecast input"}.get(self.name)
         if tick:
             self.browser.wait(lambda: self.browser.all(tick), f"{self.name} asks for no tick")
             if not self.browser.one(tick).is_selected():
