@@ -18,7 +18,7 @@ function remember(reason) {
   list.replaceChildren(...last.map((value) => made("option", { value })));
 }
 
-const inputOf = (form) => document.getElementById(`${form.id}-why`);
+const inputOf = (form) => /** @type {HTMLInputElement | null} */ (document.getElementById(`${form.id}-why`));
 const placeOf = (form) => inputOf(form)?.closest("[data-field]");
 
 /** The field for a reason in the form of this id, if one of these kinds of acts needs one. */

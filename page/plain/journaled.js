@@ -31,11 +31,12 @@ const BEFORE = { "due.confirmAbout": "page.noWithdrawal", "file.sendAbout": "pag
  * @returns {[string, string[]][]}
  */
 export function journaled(reasons, isRead) {
-  const ofRecord = ["record.more", [isRead ? "page.inHistory" : "page.inJournal", "record.less"]];
   const all = { ...SENTENCES, "import.sendAbout": ["add-record"] };
+  /** @type {[string, string[]][]} */
   const sentences = Object.entries(all).map(([name, kinds]) => {
     const last = kinds.every((kind) => reasons.includes(kind)) ? "page.journaledReason" : "page.journaled";
     return [name, name in BEFORE ? [BEFORE[name], last] : [last]];
   });
-  return [...sentences, ofRecord];
+  sentences.push(["record.more", [isRead ? "page.inHistory" : "page.inJournal", "record.less"]]);
+  return sentences;
 }

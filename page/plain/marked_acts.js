@@ -11,7 +11,7 @@ import { canBeConfirmed } from "./lists.js";
  * @property {string} [title]
  * @property {string} [status] of a record, as the catalogue has it
  * @property {string} [action] of a record, as a list has it
- * @property {object | null} [row] of a record, as the office's due list of the act's day has it; null if it is not due
+ * @property {Object<string, any> | null} [row] of a record, as the office's due list of the act's day has it; null if it is not due
  * @property {string | null} [closed] of an aggregation
  */
 
@@ -31,7 +31,10 @@ import { canBeConfirmed } from "./lists.js";
 /** A record is here; the status of one that a list has is not known, and it is here. */
 const unlessHere = ({ status = "here" }) => (status === "here" ? "" : status === "ended" ? "ended" : "away");
 
-/** Why a record that is here is not confirmed from a search: what is held, or confirmed by somebody, is so only from a list. */
+/**
+ * Why a record that is here is not confirmed from a search: what is held, or confirmed by somebody, is so only from a list.
+ * @param {Item} item
+ */
 function unlessOpen({ row }) {
   if (row === undefined) return "unread";
   if (row === null) return "notDue";

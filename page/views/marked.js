@@ -101,7 +101,8 @@ export class MarkedBar {
 
   /** The day that is written in the form of a deed, or today. */
   #dayOf(deed) {
-    const written = document.getElementById(`${this.#forms.get(deed).form.id}-day`).value.trim();
+    const input = /** @type {HTMLInputElement} */ (document.getElementById(`${this.#forms.get(deed).form.id}-day`));
+    const written = input.value.trim();
     return isDay(written) ? written : today();
   }
 

@@ -28,7 +28,7 @@ const EXISTS = 4;
 /** The record that the form is for, as it was shown. */
 let subject = null;
 
-const input = (name) => byId(`${ID}-${name}`);
+const input = (name) => /** @type {HTMLInputElement} */ (byId(`${ID}-${name}`));
 
 // ---- the form
 
@@ -66,7 +66,7 @@ export function offer(record) {
   byId(`${ID}-part`).hidden = record.status !== "here" || !KINDS.every(mayDo);
   byId(`${ID}-held`).textContent = record.held === null ? "" : t("misfiled.held", { hold: record.held });
   if (isSame) return;
-  byId(`${ID}-part`).open = false;
+  byId(`${ID}-part`).removeAttribute("open");
   quiet(byId(`${ID}-outcome`));
   fill(record);
 }
@@ -141,7 +141,7 @@ async function endWrong(record, { number, ref }, { code, day, by }, send, place)
 async function ask(values, readAnew) {
   const record = subject;
   const place = byId(`${ID}-outcome`);
-  const form = byId(ID);
+  const form = /** @type {HTMLFormElement} */ (byId(ID));
   const value = (name) => values[`${ID}-${name}`];
   const [day, code, by] = ["day", "mistake", "by"].map(value);
   asking(place);
@@ -149,10 +149,11 @@ async function ask(values, readAnew) {
   const content = await contentOf(record, place);
   const send = senderOf(form);
   if (content === null || !(await hasSchedule(code, day, send, place))) return;
-  const members = Object.fromEntries(["ref", "title", "originated", "aggregation", "class", "schedule"].map((name) => [name, value(name)]));
-  const number = await fileAgain(addRecord(day, { ...members, content }), send, place);
+  const [ref, title, originated, aggregation, own, schedule] = ["ref", "title", "originated", "aggregation", "class", "schedule"].map(value);
+  const act = addRecord(day, { ref, title, originated, aggregation, class: own, schedule, content });
+  const number = await fileAgain(act, send, place);
   if (number === null) return;
-  const isDone = await endWrong(record, { number, ref: members.ref }, { code, day, by }, send, place);
+  const isDone = await endWrong(record, { number, ref }, { code, day, by }, send, place);
   if (isDone) {
     untick(form);
     forgetReason(form);

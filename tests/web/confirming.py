@@ -84,6 +84,8 @@ def small(story: Story) -> None:
         same(f"{name}: and open by a press", (look()["form"], it.one("#due-panel > .panel-line").get_attribute("aria-expanded")), (True, "true"))
         it.driver.execute_script("document.querySelector('#due-unmark').click()")
         same(f"{name}: with no mark left there is no line", look()["isSeen"], False)
+        it.driver.execute_script("document.querySelector('#due-mark-all').click()")
+        same(f"{name}: for other marks they are folded again", look()["form"], False)
     it.width(1280)
 
 
