@@ -180,22 +180,25 @@ const ONE = {
   schedules: { kind: "schedule", words: scheduleWords },
 };
 
+/** Whether one of these is asked for alone. */
+const isOne = () => asked.part in ONE && asked.code !== "";
+
 function tellOne(it) {
+  if (!it) return past.tell(null);
   const { kind, words } = ONE[asked.part];
   past.keep(kind, it.code);
   const records = link(addressOf({ part: "records", [kind]: it.code }), t("catalogue.one.records"));
   const all = link(addressOf({ part: asked.part }), t(`catalogue.one.${asked.part}`));
   const told = made("h2", {}, t(`catalogue.one.${kind}`, { code: it.code, words: words(it) }));
-  select("within").replaceChildren(told, made("p", { class: "links-to" }, records, " ", all));
+  return select("within").replaceChildren(told, made("p", { class: "links-to" }, records, " ", all));
 }
 
 async function tellList() {
   const all = await part(asked.part);
   if (!all) return null;
-  const isOne = asked.part in ONE && asked.code !== "";
-  const rows = isOne ? all.filter(({ code }) => code === asked.code) : all;
+  const rows = isOne() ? all.filter(({ code }) => code === asked.code) : all;
   return () => {
-    if (isOne && rows.length) tellOne(rows[0]);
+    if (isOne()) tellOne(rows[0]);
     byId("catalogue-count").textContent = rows.length ? "" : t("catalogue.none");
     return rows.length ? [listOf(asked.part, rows)] : [];
   };
@@ -257,7 +260,7 @@ async function draw() {
   }
   quiet(byId("catalogue-outcome"));
   select("within").replaceChildren();
-  if (asked.part !== "records" && !asked.code) past.tell(null);
+  if (asked.part !== "records" && !isOne()) past.tell(null);
   place.replaceChildren(...tell());
   tellTools();
   await fillDetails(mine);

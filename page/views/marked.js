@@ -121,8 +121,9 @@ export class MarkedBar {
     const it = this.#forms.get(deed);
     it.preview.setAttribute("aria-busy", "true");
     const [{ items, wrong }, hold] = [await this.#itemsOf(deed), await this.#holdOf(deed)];
+    // the newest one of the same deed says when it is done
+    if (mine === this.#turn || deed !== this.deed) it.preview.removeAttribute("aria-busy");
     if (mine !== this.#turn) return;
-    it.preview.removeAttribute("aria-busy");
     if (deed === "hold") it.showHold(hold);
     const { taken, left } = sorted(deed, items);
     const before = deed === "hold" && !this.#isInForce(hold) ? 1 : 0;

@@ -171,7 +171,7 @@ export function start(readAnew) {
   });
   const held = made("p", { id: `${ID}-held`, class: "wrong" });
   const button = made("button", { class: "grave", "data-text": "misfiled.submit" });
-  const form = made("form", { id: ID, class: "deed" }, hint("misfiled.about"), hint("fields.persons"), held, ...places, ...reasonFields(ID, KINDS), button);
+  const form = made("form", { id: ID, class: "deed" }, hint("misfiled.about"), hint("fields.persons"), held, ...places, ...reasonFields(ID, [...KINDS, "add-schedule"]), button);
   const summary = made("summary", {}, made("h3", { "data-text": "misfiled.title" }));
   const outcome = made("div", { id: `${ID}-outcome`, class: "outcome", role: "status" });
   const both = made("div", { class: "inset" }, made("details", { id: `${ID}-part`, class: "act" }, summary, form), outcome);

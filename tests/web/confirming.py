@@ -74,7 +74,7 @@ def small(story: Story) -> None:
         it.width(width, height)
         it.open(f"{story.proxy.page}#due?day={after(800)}")
         rows = len(it.table("#due-table"))
-        it.driver.execute_script("document.querySelector('#due-mark-all').click()")
+        it.press("#due-mark-all")
         there = look()
         name = f"{width}x{height}"
         same(f"{name}: what is marked has a line in sight", (there["isSeen"], there["text"]), (True, WORDS["line"].format(count=rows)))
