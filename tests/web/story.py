@@ -192,7 +192,8 @@ class Story:
         it.press("#run-sure")
         it.press("#run-resume button")
         self.success(f"run {number}: it is closed", "#run-resume-outcome", f'200 {{"certificate":{number}}}', f"Run {number} is carried out and closed.")
-        counts = re.findall(r"^(?:ENDED|SENT|SKIPPED) (\d+)$", self.office.ask("GET", f"/certificates/{number}")[2].decode(), re.M)
+        outcomes = re.findall(r"^ENTRY\t\d+\t(\w+)\t", self.office.ask("GET", f"/certificates/{number}")[2].decode(), re.M)
+        counts = [str(outcomes.count(outcome)) for outcome in ("destroyed", "sent", "transferred", "skipped")]
         same(f"run {number}: its counts are those of its certificate", list(it.facts("#run-resume-outcome").values()), counts)
         it.press("#run-sure")
         it.press("#run-resume button")

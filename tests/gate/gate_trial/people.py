@@ -110,10 +110,10 @@ def histories(proxy: Proxy, language: str) -> None:
         it.settled()
         same("class BLDG1: alone", [row[0] for row in rows_of(it, "#catalogue-part > table")], ["BLDG1"])
         unfold(it, "#catalogue-history")
+        given = [words["kinds"]["set-class-schedule"].format(**{"class": "BLDG1", "schedule": code}) for code in ("D0", "T0")]
         same("class BLDG1: who gave it which schedule, and why",
-             [(row[1].split(" · ")[-1], row[3], row[2].split(".")[0]) for row in rows_of(it, "#catalogue-history")[:2]],
-             [("records-manager", why, words["kinds"]["set-class-schedule"].format(**{"class": "BLDG1", "schedule": schedule}).split(".")[0])
-              for why, schedule in (("put right", "D0"), ("a mistake", "T0"))])
+             [(row[1].split(" · ")[-1], row[3]) for row in rows_of(it, "#catalogue-history") if row[2].startswith(tuple(given))],
+             [("records-manager", "put right"), ("records-manager", "a mistake")])
         it.picture("class-history")
         it.open("catalogue?part=schedules&code=D0")
         unfold(it, "#catalogue-history")
