@@ -33,7 +33,7 @@ function open(input, calendar) {
 export function addCalendar(input) {
   const hidden = { tabindex: "-1", "aria-hidden": "true" };
   const calendar = made("input", { type: "date", class: "calendar", "aria-label": t("fields.calendar"), ...hidden });
-  const mark = made("span", { class: "pick", title: t("fields.calendar"), "aria-hidden": "true" }, "\u25be", calendar);
+  const mark = made("span", { class: "pick", title: t("fields.calendar"), "aria-hidden": "true" }, calendar);
   input.after(mark);
   mark.addEventListener("click", () => open(input, calendar));
   calendar.addEventListener("change", () => calendar.value && write(input, calendar.value));

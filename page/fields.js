@@ -5,9 +5,10 @@ import { addCalendar, doubtOf, normalise } from "./day_fields.js";
 import { byId, made, paragraph, quiet } from "./page.js";
 import { isCode, isDay, isNumber, isTarget, isText, today } from "./plain/forms.js";
 import { PLAN_KINDS } from "./plain/plan_kinds.js";
+import { codeWrong, dayWrong, numberWrong, textWrong } from "./plain/wrong.js";
 import { putNumbers } from "./refs.js";
 import { signedBy } from "./rights.js";
-import { t } from "./texts.js";
+import { all, t } from "./texts.js";
 
 /**
  * The kinds of fields: the text of the label, the hint or none, what is said of a wrong value, which values are right, and
@@ -77,7 +78,18 @@ export function field(place) {
 /** Room below the day of an act for what a late day means. It is live, so that a screen reader reports what appears there. */
 function watchDay(place, input) {
   place.append(made("div", { class: "late", id: `${input.id}-late`, role: "status" }));
-  input.addEventListener("input", () => askLate(input));
+  input.addEventListener("input", () => {
+    askLate(input);
+    tellDay(input);
+  });
+  tellDay(input);
+}
+
+/** Says below the day of an act that it is today; below another one, how a day is written. */
+function tellDay(input) {
+  const isToday = input.value.trim() === today();
+  const weekday = new Date().toLocaleDateString(all().lang, { weekday: "long" });
+  input.closest("[data-field]").querySelector(".hint").textContent = isToday ? t("fields.dayToday", { weekday }) : t("fields.dayHint");
 }
 
 /** What a late day means, and the tick that is asked for it. */
@@ -111,6 +123,7 @@ export function askAllLate() {
 export function renewDays() {
   for (const input of daysIn(document)) {
     if (input.value === input.dataset.today) input.dataset.today = input.value = today();
+    tellDay(input);
   }
   askAllLate();
 }
@@ -143,16 +156,28 @@ export function clear(input) {
 
 const kindOf = (input) => KINDS[input.closest("[data-field]").dataset.field];
 
+/** What says more of a wrong value than that it is wrong, by the text that says no more. */
+const DETAILED = { codeWrong, textWrong, numberWrong, dayWrong };
+
+/** What is wrong with a value, in words: what the text of this name says, or more. */
+function wordsOfWrong(key, value) {
+  const detailed = DETAILED[key.replace("fields.", "")];
+  return detailed ? t(...detailed(value)) : t(key);
+}
+
 function wrongOf(input) {
   if (input.type === "checkbox") return input.checked ? "" : t("fields.sureWrong");
   if (input.type === "file") return input.files.length ? "" : t("fields.fileWrong");
   const kind = input.closest("form").querySelector("select");
   const { field: name, optional: may } = input.closest("[data-field]").dataset;
   if (may !== undefined && input.value === "") return "";
-  if (name === "target") return isTarget(kind.value, input.value) ? "" : t(kind.value === "class" ? "fields.codeWrong" : "fields.numberWrong");
+  if (name === "target") {
+    const wrongOfKind = kind.value === "class" ? "fields.codeWrong" : "fields.numberWrong";
+    return isTarget(kind.value, input.value) ? "" : wordsOfWrong(wrongOfKind, input.value);
+  }
   const { takes, wrong, optional } = kindOf(input);
   if ((optional && input.value === "") || takes(input.value, input.form)) return "";
-  return (takes === isDay && doubtOf(input.value)) || t(wrong);
+  return (takes === isDay && doubtOf(input.value)) || wordsOfWrong(wrong, input.value);
 }
 
 /** The values of a form's fields by their ids, or null where one is wrong: that is said, and the first such has the focus. */

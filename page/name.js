@@ -7,13 +7,20 @@ import { jsonOf } from "./plain/outcomes.js";
 import { t } from "./texts.js";
 
 const COLOUR = /^#[0-9a-f]{6}$/i;
+/** An address of help, of a contact or of a statement: of the web, or of a mailbox. */
+const ADDRESS = /^(https:\/\/|mailto:)[^\s]+$/;
 
 let name = null;
+/** The addresses that the administrator set, by what they are for. */
+let addresses = {};
 /** The rules of paper that have the words of this office; they are made anew before each printing. */
 const paper = new CSSStyleSheet();
 
 /** The name of the office: its own, or what every office is called. */
 export const officeName = () => name ?? t("page.name");
+
+/** The addresses of help, of a contact and of a statement on accessibility; undefined if the administrator set none. */
+export const links = () => addresses;
 
 /** The title of a view. */
 export const titleOf = (view) => (name === null ? t("page.title", { view }) : t("page.titleOf", { view, office: name }));
@@ -39,11 +46,13 @@ function writePaper() {
   paper.replaceSync(`@page { ${boxes.map((it) => box(...it)).join(" ")} }`);
 }
 
-/** Reads the name and the colour. Without them the office is called as every one, and has the colour of the page. */
+/** Reads the name, the colour and the addresses. Without them the office is called as every one, and has the colour of the page. */
 export async function load() {
   const answer = await get(`name.json`);
   const set = answer.status === 200 ? jsonOf(answer) : undefined;
   if (typeof set?.name === "string" && isText(set.name)) name = visible(set.name);
+  const given = ["help", "contact", "statement"].filter((it) => ADDRESS.test(set?.[it] ?? ""));
+  addresses = Object.fromEntries(given.map((it) => [it, set[it]]));
   if (COLOUR.test(set?.colour ?? "")) {
     document.documentElement.style.setProperty("--office", set.colour);
     document.body.classList.add("coloured");

@@ -3,12 +3,14 @@ import * as warning from "./clock_warning.js";
 import { field, renewDays } from "./fields.js";
 import * as officeName from "./name.js";
 import * as offers from "./offers.js";
+import * as foot from "./foot.js";
 import { nameForms } from "./form_names.js";
 import { byId, made, translate } from "./page.js";
 import * as paper from "./paper.js";
 import * as refs from "./refs.js";
 import * as rights from "./rights.js";
 import { all, load, t } from "./texts.js";
+import * as accessibility from "./views/accessibility.js";
 import * as catalogue from "./views/catalogue.js";
 import * as certificate from "./views/certificate.js";
 import * as due from "./views/due.js";
@@ -38,7 +40,11 @@ const VIEWS = {
   holds,
   catalogue,
   fault,
+  accessibility,
 };
+
+/** The views that are reached from others, and not from the navigation. */
+const APART = ["fault", "accessibility"];
 
 /** The view and the words that an address names; what is to do, where it names none. */
 function named(hash) {
@@ -87,9 +93,9 @@ function skip(event) {
   byId("main").focus();
 }
 
-/** The links to the views. The one that tells the faults is reached from the view Run. */
+/** The links to the views: the faults are reached from the view Run, and what is said of accessibility from the foot. */
 function addLinks() {
-  const names = Object.keys(VIEWS).filter((name) => name !== "fault");
+  const names = Object.keys(VIEWS).filter((name) => !APART.includes(name));
   const links = names.map((name) => made("a", { href: `#${name}`, "data-text": `${name}.title` }));
   byId("views").append(...links.map((link) => made("li", {}, link)));
 }
@@ -107,6 +113,7 @@ async function begin() {
   nameForms();
   warning.start();
   officeName.start();
+  foot.start();
   paper.start();
   offers.start();
   refs.start();

@@ -4,8 +4,21 @@ import { clear, field } from "./fields.js";
 import { made } from "./page.js";
 import { bodyOf } from "./plain/acts.js";
 import { needsReason } from "./rights.js";
+import { t } from "./texts.js";
 
-const inputOf = (form) => document.getElementById(`${form.id}-why`);
+/** So many reasons of this page are offered again, the last one first: the acts of one case have the same. */
+const MOST = 8;
+const LIST = "reasons";
+let last = [];
+
+/** Notes a reason that was sent, to be offered in each form that asks for one. */
+function remember(reason) {
+  last = [reason, ...last.filter((it) => it !== reason)].slice(0, MOST);
+  const list = document.getElementById(LIST) ?? document.body.appendChild(made("datalist", { id: LIST, "aria-label": t("fields.why") }));
+  list.replaceChildren(...last.map((value) => made("option", { value })));
+}
+
+const inputOf = (form) => /** @type {HTMLInputElement | null} */ (document.getElementById(`${form.id}-why`));
 const placeOf = (form) => inputOf(form)?.closest("[data-field]");
 
 /** The field for a reason in the form of this id, if one of these kinds of acts needs one. */
@@ -13,6 +26,7 @@ export function reasonFields(id, kinds) {
   if (!needsReason(kinds)) return [];
   const place = made("div", { "data-field": "why", id: `${id}-why` });
   field(place);
+  place.querySelector("input").setAttribute("list", LIST);
   return [place];
 }
 
@@ -31,7 +45,10 @@ export const reasonOf = (form, kinds) => (needsReason(kinds) ? (inputOf(form)?.v
 
 /** Empties the field, once what the reason was for is done. */
 export function forgetReason(form) {
-  if (inputOf(form)) clear(inputOf(form));
+  const input = inputOf(form);
+  if (!input) return;
+  if (input.value.trim()) remember(input.value.trim());
+  clear(input);
 }
 
 /**

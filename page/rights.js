@@ -68,7 +68,7 @@ async function signOut() {
 
 /** Has the page say what the journal of a gate records, in the place of what the office itself does not. */
 export function tellJournal() {
-  if (isGated()) replaceTexts(journaled(gated.reasons ?? []));
+  if (isGated()) replaceTexts(journaled(gated.reasons ?? [], mayRead("history")));
 }
 
 /** Whether the view that is seen has forms, and all of them are left out since the name has none of their rights. */

@@ -56,6 +56,15 @@ export function kindOf(bytes) {
   return { extension: "", type: "application/octet-stream", look: null };
 }
 
+/** Extensions of files that no browser shows in the page: what these are is known before they are read. */
+const UNSHOWN = new Set(
+  ("7z aac avi bmp doc docx dwg dxf eml exe flac gif gz heic iso m4a mdb mkv mov mp3 mp4 mpg msg odg odp ods odt ogg "
+    + "ppt pptx psd pst rar rtf tar tif tiff wav webm wmv xls xlsx zip").split(" "),
+);
+
+/** Whether a file may be one that the page shows, by its name or its ref. */
+export const mayBeShown = (name) => !UNSHOWN.has(extensionOf(name));
+
 /** So many letters a name has at most, so that every system of files takes it. */
 const LONGEST = 120;
 /** What no name of a file may have, here or on another system, and what nobody sees. */

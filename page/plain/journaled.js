@@ -27,12 +27,16 @@ const BEFORE = { "due.confirmAbout": "page.noWithdrawal", "file.sendAbout": "pag
 /**
  * The names of the texts that are others at an office with a journal, each with the names of those in its place.
  * @param {string[]} reasons the kinds of acts that need a reason there
+ * @param {boolean} isRead whether this name may read histories
  * @returns {[string, string[]][]}
  */
-export function journaled(reasons) {
+export function journaled(reasons, isRead) {
   const all = { ...SENTENCES, "import.sendAbout": ["add-record"] };
-  return Object.entries(all).map(([name, kinds]) => {
+  /** @type {[string, string[]][]} */
+  const sentences = Object.entries(all).map(([name, kinds]) => {
     const last = kinds.every((kind) => reasons.includes(kind)) ? "page.journaledReason" : "page.journaled";
     return [name, name in BEFORE ? [BEFORE[name], last] : [last]];
   });
+  sentences.push(["record.more", [isRead ? "page.inHistory" : "page.inJournal", "record.less"]]);
+  return sentences;
 }

@@ -1,5 +1,6 @@
 // What can be done with all that is marked: which of it each deed is for, and the acts that are sent for it.
-import { holdOn, placeHold, recordEvent } from "./acts.js";
+import { confirm, holdOn, placeHold, recordEvent } from "./acts.js";
+import { canBeConfirmed } from "./lists.js";
 
 /**
  * One record or aggregation that is marked, as it was shown. A member that is not known is undefined.
@@ -10,6 +11,7 @@ import { holdOn, placeHold, recordEvent } from "./acts.js";
  * @property {string} [title]
  * @property {string} [status] of a record, as the catalogue has it
  * @property {string} [action] of a record, as a list has it
+ * @property {Object<string, any> | null} [row] of a record, as the office's due list of the act's day has it; null if it is not due
  * @property {string | null} [closed] of an aggregation
  */
 
@@ -29,10 +31,30 @@ import { holdOn, placeHold, recordEvent } from "./acts.js";
 /** A record is here; the status of one that a list has is not known, and it is here. */
 const unlessHere = ({ status = "here" }) => (status === "here" ? "" : status === "ended" ? "ended" : "away");
 
+/**
+ * Why a record that is here is not confirmed from a search: what is held, or confirmed by somebody, is so only from a list.
+ * @param {Item} item
+ */
+function unlessOpen({ row }) {
+  if (row === undefined) return "unread";
+  if (row === null) return "notDue";
+  if (!canBeConfirmed(row)) return "toReview";
+  if (row.held !== null) return "held";
+  return row.confirmed ? "confirmed" : "";
+}
+
 const targetOf = ({ kind, number }) => `${kind}:${number}`;
 
 /** @type {Object<string, Deed>} */
 export const DEEDS = {
+  confirm: {
+    acts: ["confirm"],
+    kinds: ["record"],
+    fields: { by: "by", day: "day" },
+    left: (item) => unlessHere(item) || unlessOpen(item),
+    act: ({ row }, { day, by }) => confirm(row, day, by),
+    already: [],
+  },
   hold: {
     acts: ["place-hold", "hold-on"],
     kinds: ["record", "aggregation"],

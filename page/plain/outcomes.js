@@ -23,16 +23,22 @@ function forPeople(texts, part, name) {
 }
 
 const refusal = (texts, number) => ({ key: "said.refusal", number, ...texts.refusals[number], ...forPeople(texts, "refusals", number) });
-const fault = (texts, number) => ({ key: "said.fault", number, ...texts.faults[number] });
+const fault = (texts, number) => ({ key: "said.fault", number, ...texts.faults[number], ...forPeople(texts, "faults", number) });
+
+/** The row for a status and an error of the office, in words for people. */
+function errorRow(texts, status, word) {
+  const row = statusRow(texts, status, `"${word}"`);
+  return row && { ...row, ...forPeople(texts, "statuses", `${status} ${word}`) };
+}
 
 /** What a body of JSON means: each refusal among answers once; an error, with the refusal of an act that does not read; or a fault. */
 function explainedJson(texts, status, body) {
   if (Array.isArray(body)) return [...new Set(body.map((it) => it.refused))].filter(Boolean).map((number) => refusal(texts, number));
   if (typeof body?.error === "string") {
-    const rows = [statusRow(texts, status, `"${body.error}"`)];
+    const rows = [errorRow(texts, status, body.error)];
     return body.refused ? [...rows, refusal(texts, body.refused)] : rows;
   }
-  if (body?.fault) return [statusRow(texts, status, `"fault"`), fault(texts, body.fault)];
+  if (body?.fault) return [errorRow(texts, status, "fault"), fault(texts, body.fault)];
   if (body?.refused) return [refusal(texts, body.refused)];
   return [undefined];
 }

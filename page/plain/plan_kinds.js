@@ -20,6 +20,7 @@ const there = (name) => ({ ...code(name), hint: "plan.fields.codeHint" });
 const maybe = (name, hint) => ({ ...code(name), hint: label(hint), optional: true });
 const text = (name) => ({ label: label(name), hint: label(`${name}Hint`), wrong: "fields.textWrong", takes: isText });
 const number = (name) => ({ label: label(name), wrong: "fields.numberWrong", takes: isNumber, mode: "numeric" });
+const fact = (name) => ({ label: `record.facts.${name}`, wrong: "fields.textWrong", takes: isText });
 const day = { hint: "fields.dayHint", wrong: "fields.dayWrong", takes: isDay, mode: "numeric" };
 const choice = (name, choices, words) => ({ label: label(name), choices, words });
 // what is written in one form alone: its hint says also what is wrong
@@ -34,6 +35,11 @@ export const PLAN_KINDS = {
   ownClass: maybe("ownClass", "ownClassHint"),
   ownSchedule: maybe("ownSchedule", "ownScheduleHint"),
   nextSchedule: maybe("nextSchedule", "nextScheduleHint"),
+  newRef: { ...fact("ref"), hint: "misfiled.refHint" },
+  newTitle: fact("title"),
+  newOriginated: { label: "record.facts.originated", ...day },
+  newAggregation: { ...number("aggregation"), hint: "misfiled.aggregationHint" },
+  misfiledSchedule: { ...there("schedule"), label: "misfiled.schedule", hint: "misfiled.scheduleHint" },
   title: text("title"),
   ref: text("ref"),
   trigger: choice("trigger", TRIGGERS, "plan.triggers"),

@@ -8,16 +8,17 @@ import { visible } from "../plain/marks.js";
 import { isLimited, mayRead } from "../rights.js";
 import { t } from "../texts.js";
 import { FILTERS, FIRST, FoundAggregations, FoundRecords, MORE, MOST, fillChoices, saveFound } from "./catalogue_found.js";
-import { addressOf, listOf } from "./catalogue_tables.js";
+import { addressOf, listOf, scheduleWords } from "./catalogue_tables.js";
 import { treeList } from "./catalogue_tree.js";
 import { HistoryPart } from "./history.js";
 import { MarkedBar } from "./marked.js";
+import { addLine, tellLine } from "./panel_fold.js";
 
 const PARTS = ["records", "aggregations", "classes", "schedules", "holds", "runs"];
 const ALL_FILTERS = [...new Set(Object.values(FILTERS).flat())];
 
-/** What the address asks for: a part, words, filters, an aggregation and an order; an empty text asks for nothing. */
-const NOTHING = { text: "", aggregation: "", ...Object.fromEntries(ALL_FILTERS.map((name) => [name, ""])), sort: "", isDown: false };
+/** What the address asks for: a part, a code in it, words, filters, an aggregation and an order; an empty text asks for nothing. */
+const NOTHING = { code: "", text: "", aggregation: "", ...Object.fromEntries(ALL_FILTERS.map((name) => [name, ""])), sort: "", isDown: false };
 let asked = { part: "records", ...NOTHING };
 let turn = 0;
 
@@ -29,7 +30,7 @@ let soon = 0;
 
 const FOUND = { records: new FoundRecords(() => tellMarks()), aggregations: new FoundAggregations(() => tellMarks()) };
 const BARS = {};
-/** The history of the aggregation whose records are shown. */
+/** The history of the aggregation whose records are shown, or of the class or schedule that is. */
 let past = null;
 
 /** What is searched in the part that is shown, or undefined. */
@@ -119,6 +120,7 @@ function tellMarks() {
   byId("catalogue-marked").textContent = t("catalogue.marked", words);
   byId("catalogue-panel").hidden = found.marks.size === 0;
   byId("catalogue-panel").classList.toggle("marking", found.marks.size > 0);
+  tellLine(byId("catalogue-panel"), words.count);
   BARS[asked.part]?.tell();
 }
 
@@ -172,10 +174,31 @@ async function tellAggregations() {
   };
 }
 
+/** What one class or schedule is, with what was done with it, and what leads to its records and to all others. */
+const ONE = {
+  classes: { kind: "class", words: (it) => visible(it.title) },
+  schedules: { kind: "schedule", words: scheduleWords },
+};
+
+/** Whether one of these is asked for alone. */
+const isOne = () => asked.part in ONE && asked.code !== "";
+
+function tellOne(it) {
+  if (!it) return past.tell(null);
+  const { kind, words } = ONE[asked.part];
+  past.keep(kind, it.code);
+  const records = link(addressOf({ part: "records", [kind]: it.code }), t("catalogue.one.records"));
+  const all = link(addressOf({ part: asked.part }), t(`catalogue.one.${asked.part}`));
+  const told = made("h2", {}, t(`catalogue.one.${kind}`, { code: it.code, words: words(it) }));
+  return select("within").replaceChildren(told, made("p", { class: "links-to" }, records, " ", all));
+}
+
 async function tellList() {
-  const rows = await part(asked.part);
-  if (!rows) return null;
+  const all = await part(asked.part);
+  if (!all) return null;
+  const rows = isOne() ? all.filter(({ code }) => code === asked.code) : all;
   return () => {
+    if (isOne()) tellOne(rows[0]);
     byId("catalogue-count").textContent = rows.length ? "" : t("catalogue.none");
     return rows.length ? [listOf(asked.part, rows)] : [];
   };
@@ -237,7 +260,7 @@ async function draw() {
   }
   quiet(byId("catalogue-outcome"));
   select("within").replaceChildren();
-  if (asked.part !== "records") past.tell(null);
+  if (asked.part !== "records" && !isOne()) past.tell(null);
   place.replaceChildren(...tell());
   tellTools();
   await fillDetails(mine);
@@ -322,6 +345,7 @@ export function start() {
     BARS[name] = barOf(name);
     byId("catalogue-panel").append(BARS[name].node);
   }
+  addLine(byId("catalogue-panel"));
   startTools();
   past = new HistoryPart("catalogue-history");
   select("within").after(past.node);

@@ -10,7 +10,7 @@ const word = (name) => t(`catalogue.columns.${name}`);
 export const recordLink = (number) => link(`#record?number=${number}`, number);
 
 /** What the address of a part may ask for. */
-const ASKED = ["part", "text", "aggregation", "status", "class", "schedule", "year", "due", "state"];
+const ASKED = ["part", "code", "text", "aggregation", "status", "class", "schedule", "year", "due", "state"];
 
 /** The address of a part with what is looked for in it, and in which order. */
 export function addressOf(asked) {
@@ -64,6 +64,13 @@ function targetsOf(hold) {
   return place;
 }
 
+/** The code of a class or a schedule, which leads to it alone; no line breaks it. */
+function codeLink(part, code) {
+  const it = link(addressOf({ part, code }), code);
+  it.className = "day";
+  return it;
+}
+
 const holdLink = ({ code }) => link(`#holds?code=${code}`, code);
 const runLink = ({ number, closed }) => link(`#${closed ? "certificate" : "run"}?number=${number}`, number);
 /** A count, or nothing for a run that was closed since the catalogue. */
@@ -72,10 +79,10 @@ const stateOf = (run) => t(run.closed ? "catalogue.closedRun" : "catalogue.openR
 
 /** The lists: their columns, and the cells of a row. */
 const LISTS = {
-  classes: { columns: ["code", "title", "schedule"], cells: (it) => [it.code, visible(it.title), it.schedule] },
+  classes: { columns: ["code", "title", "schedule"], cells: (it) => [codeLink("classes", it.code), visible(it.title), codeLink("schedules", it.schedule)] },
   schedules: {
     columns: ["code", "trigger", "period", "offset", "action"],
-    cells: (it) => [it.code, triggerOf(it), periodOf(it), offsetOf(it), actionOf(it)],
+    cells: (it) => [codeLink("schedules", it.code), triggerOf(it), periodOf(it), offsetOf(it), actionOf(it)],
   },
   holds: {
     columns: ["code", "reason", "placed", "by", "lifted", "targets"],

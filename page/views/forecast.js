@@ -24,12 +24,17 @@ function showNone(place, ...nodes) {
   fill(place, ...nodes);
 }
 
+/** A tick that a forecast asks for in its form. */
+export function tickOf(form, name, key) {
+  const box = made("input", { type: "checkbox", id: `${form.id}-${name}`, "aria-describedby": `${form.id}-${name}-wrong` });
+  const label = made("label", { for: box.id }, t(key));
+  return made("div", { class: "sure" }, box, label, made("strong", { class: "wrong", id: `${box.id}-wrong` }));
+}
+
 /** Says why there is no forecast of what is written, and asks for a tick in its place. */
 export function noForecast(form, words, written) {
-  const box = made("input", { type: "checkbox", id: `${form.id}-blind`, "aria-describedby": `${form.id}-blind-wrong` });
-  const label = made("label", { for: box.id }, t("forecast.blind"));
-  const tick = made("div", { class: "sure" }, box, label, made("strong", { class: "wrong", id: `${box.id}-wrong` }));
-  return { seen: JSON.stringify([words, ...written]), nodes: [paragraph(words, "grave"), tick], isNone: true };
+  const nodes = [paragraph(words, "grave"), tickOf(form, "blind", "forecast.blind")];
+  return { seen: JSON.stringify([words, ...written]), nodes, isNone: true };
 }
 
 /** Shows what an act did in the place of what it would do. */

@@ -77,7 +77,9 @@ export class FoundTable {
   #fill(most) {
     while (this.shown < Math.min(most, this.#positions.length)) {
       const next = this.#kind.rowsAt(this.#positions.slice(this.shown, Math.min(this.shown + GROUP, most)));
-      this.table.append(made("tbody", { role: "rowgroup" }, ...next.map((row) => this.#nodeOf(row))));
+      const group = made("tbody", { role: "rowgroup" }, ...next.map((row) => this.#nodeOf(row)));
+      group.style.setProperty("--rows", String(next.length));
+      this.table.append(group);
       this.shown += next.length;
     }
   }

@@ -149,7 +149,9 @@ function showColumn(name, columns, found, value) {
   const same = isShared(name) ? [[SAME, t("import.same")]] : [];
   choice.replaceChildren(...options([[NONE, t("import.none")], ...same, ...columns]));
   if (isUnclear) choice.prepend(made("option", { value: EITHER, disabled: "" }, t("import.either")));
-  choice.value = isUnclear ? EITHER : value !== undefined ? SAME : found.places[name] ?? NONE;
+  // who acts is mostly the same in each row, and is asked for at once
+  const isAsked = name === "by" && !(name in found.places);
+  choice.value = isUnclear ? EITHER : value !== undefined || isAsked ? SAME : found.places[name] ?? NONE;
   const input = select(`same-${name}`);
   input.hidden = choice.value !== SAME;
   if (document.activeElement !== input) input.value = value ?? "";

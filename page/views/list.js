@@ -2,7 +2,7 @@
 import { get, getNewest } from "../ask.js";
 import { bothDays } from "../clock.js";
 import { onSubmit } from "../fields.js";
-import { asking, byId, failed, made, paragraph, quiet, say } from "../page.js";
+import { asking, byId, failed, grouped, made, paragraph, quiet, say } from "../page.js";
 import { ANY_HOLD, NO_HOLD, actionsOf, canBeConfirmed, changed, choices, filtered, sorted, totals } from "../plain/lists.js";
 import { jsonOf } from "../plain/outcomes.js";
 import { t } from "../texts.js";
@@ -10,6 +10,7 @@ import { tellChanged, unchanged } from "./changes.js";
 import { confirmMarked } from "./confirmation.js";
 import { addParts } from "./list_parts.js";
 import { ListTable, recordOf } from "./list_table.js";
+import { addLine, tellLine } from "./panel_fold.js";
 
 /**
  * @typedef {object} Asked
@@ -228,6 +229,7 @@ export class RecordList {
     this.part("what").textContent = actionsOf(rows).map((it) => t("due.what", whatOf(it))).join(" ");
     // only then it stays in sight, over the rows (office.css)
     this.part("panel").classList.toggle("marking", this.marks.size > 0);
+    tellLine(this.part("panel"), grouped(this.marks.size));
     this.kind.marked?.(this);
   }
 
@@ -301,6 +303,7 @@ export class RecordList {
   start() {
     const { name, columns, filters } = this.kind;
     addParts(name, filters);
+    addLine(this.part("panel"));
     this.#table = new ListTable(name, columns, (column) => this.#sortBy(column));
     onSubmit(this.part("form"), (values) => this.#go(values));
     // what is marked while the server's clock is asked for was not meant

@@ -9,8 +9,8 @@ import { byAggregation } from "./list_groups.js";
 import { MarkedBar } from "./marked.js";
 import { anyTitleOf, titleOf, titleSwitch } from "./titles.js";
 
-/** What a list has no rows for: a receipt is of what was sent. */
-const EXCEPT = ["receipt"];
+/** What a list has no rows for, as a receipt of what was sent, and what it has a form of its own for. */
+const EXCEPT = ["receipt", "confirm"];
 
 /** The columns of a file or of paper: those of the list, with the title after the ref, and then these. */
 const columnsOf = (columns, more) => columns.flatMap((name) => (name === "ref" ? ["ref", "title", ...more] : [name]));

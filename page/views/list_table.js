@@ -171,7 +171,10 @@ export class ListTable {
     for (; count < this.#wanting.length && filled < most; count += 1) {
       const { heading, rows } = this.#wanting[count];
       const nodes = rows.map((row) => this.#nodeOf(row));
-      this.table.append(made("tbody", { role: "rowgroup" }, ...(heading ? [heading] : []), ...nodes));
+      const group = made("tbody", { role: "rowgroup" }, ...(heading ? [heading] : []), ...nodes);
+      // so many are out of sight until it is laid out (office.css)
+      group.style.setProperty("--rows", String(group.rows.length));
+      this.table.append(group);
       filled += rows.length;
     }
     this.#wanting.splice(0, count);

@@ -3,11 +3,13 @@ import { part } from "../catalogue.js";
 import { mark, onSubmit, untick } from "../fields.js";
 import { made, paragraph, plural, quiet, say } from "../page.js";
 import { DEEDS, actsOf, deedsFor, sorted } from "../plain/marked_acts.js";
+import { isDay, today } from "../plain/forms.js";
 import { MOST_ACTS, requestsOf, sendRequests, stepsOf } from "../plain/many.js";
 import { receiptsOf } from "../plain/receipts.js";
 import { forgetReason, senderOf } from "../reasons.js";
 import { t } from "../texts.js";
 import { sayAnswers } from "./marked_answers.js";
+import * as due from "./marked_due.js";
 import { deedForm } from "./marked_form.js";
 import { preview } from "./marked_preview.js";
 import { working } from "./marked_progress.js";
@@ -33,6 +35,8 @@ export class MarkedBar {
   #sender = null;
   #forms = new Map();
   #turn = 0;
+  /** What the preview shows of what would be confirmed. */
+  #seen = "";
 
   /** @param {Marks} marks */
   constructor(marks) {
@@ -80,6 +84,7 @@ export class MarkedBar {
     this.node.dispatchEvent(new CustomEvent("chosen", { detail: deed }));
     quiet(this.outcome);
     if (!deed) return;
+    due.forget();
     this.tell();
     this.#forms.get(deed).first?.focus();
   }
@@ -87,10 +92,18 @@ export class MarkedBar {
   /** The items of a deed, with what its form says of each. */
   async #itemsOf(deed) {
     const items = await this.marks.items();
+    if (deed === "confirm") return { items: await due.withRows(items, this.#dayOf(deed)), wrong: [] };
     if (deed !== "receipt") return { items, wrong: [] };
     const list = this.#forms.get(deed).list.value;
     const { digests, wrong } = receiptsOf(list, items);
     return withFiles(items.map((it) => ({ ...it, digest: digests.get(it.number) })), list, wrong);
+  }
+
+  /** The day that is written in the form of a deed, or today. */
+  #dayOf(deed) {
+    const input = /** @type {HTMLInputElement} */ (document.getElementById(`${this.#forms.get(deed).form.id}-day`));
+    const written = input.value.trim();
+    return isDay(written) ? written : today();
   }
 
   /** The hold of the catalogue that has this code, if the form is that of a hold. */
@@ -105,13 +118,18 @@ export class MarkedBar {
     const { deed } = this;
     if (!deed) return;
     const mine = ++this.#turn;
-    const [{ items, wrong }, hold] = [await this.#itemsOf(deed), await this.#holdOf(deed)];
-    if (mine !== this.#turn) return;
     const it = this.#forms.get(deed);
+    it.preview.setAttribute("aria-busy", "true");
+    const [{ items, wrong }, hold] = [await this.#itemsOf(deed), await this.#holdOf(deed)];
+    // the newest one of the same deed says when it is done
+    if (mine === this.#turn || deed !== this.deed) it.preview.removeAttribute("aria-busy");
+    if (mine !== this.#turn) return;
     if (deed === "hold") it.showHold(hold);
     const { taken, left } = sorted(deed, items);
     const before = deed === "hold" && !this.#isInForce(hold) ? 1 : 0;
-    it.preview.replaceChildren(...preview(deed, this.marks.kind, taken, left, { hold, wrong, before, most: MOST_ACTS }));
+    const sums = deed === "confirm" ? due.actionWords(taken) : [];
+    this.#seen = deed === "confirm" ? due.seenOf(taken) : "";
+    it.preview.replaceChildren(...preview(deed, this.marks.kind, taken, left, { sums, wrong, before, most: MOST_ACTS }));
     it.submit.textContent = plural(`marked.${deed}.submit`, taken.length);
   }
 
@@ -125,16 +143,27 @@ export class MarkedBar {
     return Object.fromEntries(Object.keys(DEEDS[deed].fields).map((name) => [name, values[`${id}-${name}`] || null]));
   }
 
+  /** Whether what would be confirmed is what was shown; if not, that is said, and what is shown is as it is now. */
+  #isAsSeen(taken, seen) {
+    if (due.seenOf(taken) === seen) return true;
+    say(this.outcome, "wrong", paragraph(t("forecast.changed")));
+    this.tell();
+    return false;
+  }
+
   /** Asks for a deed with what is marked, once it is as it was shown. */
   async #ask(deed, values) {
+    const seen = this.#seen;
+    due.forget();
     const [{ items }, hold] = [await this.#itemsOf(deed), await this.#holdOf(deed)];
     const { taken } = sorted(deed, items);
+    if (deed === "confirm" && !this.#isAsSeen(taken, seen)) return null;
     if (!taken.length) return say(this.outcome, "wrong", paragraph(t(items.length ? "marked.nothing" : "due.nothingMarked")));
     quiet(this.outcome);
     if (this.marks.before && !(await this.marks.before(taken))) return null;
     const isThere = this.#isInForce(hold);
     this.#requests = requestsOf(actsOf(deed, taken, { ...this.#named(deed, values), isThere }));
-    this.#sender = senderOf(this.#forms.get(deed).form);
+    this.#sender = senderOf(this.#forms.get(deed).form, seen);
     return this.#send(deed);
   }
 

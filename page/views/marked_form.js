@@ -9,6 +9,7 @@ import { t } from "../texts.js";
 
 /** What the office does not record of each deed: the words of the forms for one of these acts. */
 const UNRECORDED = {
+  confirm: "due.confirmAbout",
   hold: "marked.hold.unrecorded",
   event: "event.unrecorded",
   review: "recordActs.review.unrecorded",

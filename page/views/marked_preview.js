@@ -41,16 +41,16 @@ function leftOut(left) {
  * @param {string} kind what it is done with
  * @param {import("../plain/marked_acts.js").Item[]} taken
  * @param {Map<string, import("../plain/marked_acts.js").Item[]>} left
- * @param {{ hold: object | null, wrong: number[], before: number, most: number }} more the hold of the catalogue, the lines
- *   of a pasted list that name no record, how many acts go before, and how many go in one request
+ * @param {{ sums: string[], wrong: number[], before: number, most: number }} more what it adds up to, the lines of a pasted
+ *   list that name no record, how many acts go before, and how many go in one request
  */
-export function preview(deed, kind, taken, left, { wrong, before, most }) {
+export function preview(deed, kind, taken, left, { sums, wrong, before, most }) {
   const acts = taken.length + before;
   const requests = Math.ceil(acts / most);
   const parts = [];
   if (before && taken.length) parts.push(t("marked.hold.placed"));
   if (requests > 1) parts.push(t("marked.requests", { requests: grouped(requests), acts: grouped(acts), most }));
-  parts.push(plural(`marked.${deed}.what.${kind}`, taken.length));
+  parts.push(...sums, plural(`marked.${deed}.what.${kind}`, taken.length));
   const words = made("p", { class: "marked-what" }, parts.join(" "));
   const lines = wrong.length ? [paragraph(t("marked.receipt.wrong", { lines: wrong.slice(0, 20).join(", ") }), "bad-lines")] : [];
   return [words, ...lines, ...(taken.length ? [listOf(taken)] : []), ...leftOut(left)];

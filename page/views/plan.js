@@ -1,6 +1,6 @@
 // The filing plan: schedules, classes and aggregations, and what classes, aggregations and records get of them later.
 import { isFound, part } from "../catalogue.js";
-import { clear, untick, untickWith } from "../fields.js";
+import { clear, mark, untick, untickWith } from "../fields.js";
 import { byId, made, sentence } from "../page.js";
 import { dueDay, LONGEST } from "../plain/days.js";
 import { isDay, isNumber, today } from "../plain/forms.js";
@@ -12,6 +12,25 @@ import * as forecast from "./plan_forecast.js";
 
 /** Makes the forecast anew: an act that is done may change what it goes by. */
 const renewRule = () => forecast.renew("rule");
+
+/** Writes the code of something new into the fields for it that are empty: it was added to be used. */
+function carry(code, fields) {
+  for (const input of fields.map(byId)) {
+    if (input.value !== "") continue;
+    input.value = code;
+    mark(input, "");
+  }
+}
+
+function carrySchedule({ code }, fate) {
+  if (fate === "done") carry(code, ["plan-class-schedule", "plan-rule-schedule"]);
+  return renewRule();
+}
+
+function carryClass({ code }, fate) {
+  if (fate === "done") carry(code, ["plan-aggregation-class"]);
+  return renewRule();
+}
 
 /** The forms, by the heading that they are below. */
 const FORMS = {
@@ -32,7 +51,7 @@ const FORMS = {
       },
       act: ({ example, ...members }) => ({ act: "add-schedule", ...members, count: Number(members.count) }),
       clears: ["code"],
-      after: renewRule,
+      after: carrySchedule,
     },
   ],
   classes: [
@@ -43,7 +62,7 @@ const FORMS = {
       fields: { code: "classCode", title: "title", schedule: "schedule", day: "day" },
       act: (members) => ({ act: "add-class", ...members }),
       clears: ["code", "title"],
-      after: renewRule,
+      after: carryClass,
     },
     {
       id: "plan-rule",

@@ -10,7 +10,7 @@ import { visible } from "../plain/marks.js";
 import { jsonOf } from "../plain/outcomes.js";
 import { recordsOf } from "../records.js";
 import { all, t } from "../texts.js";
-import { forecastOf, noForecast, placeIn } from "./forecast.js";
+import { forecastOf, noForecast, placeIn, tickOf } from "./forecast.js";
 
 const LAST_DAY = "2999-12-31";
 /** So many records are asked for, and so many rows of a table are shown. */
@@ -150,6 +150,7 @@ async function makeRule() {
   if (confirmed) nodes.push(paragraph(plural("forecast.rule.fall", fallen.length), fallen.length ? "grave" : ""), ...fallenList(fallen));
   if (rows.length > found.length) nodes.push(paragraph(t("forecast.some", { count: grouped(found.length) }), "hint"));
   nodes.push(paragraph([...(await asOfWords(it)), t("forecast.rule.limits")].join(" "), "hint"));
+  if (counts.moved || counts.none || fallen.length) nodes.push(tickOf(byId("plan-rule"), "sure", "forecast.rule.sure"));
   return { seen: JSON.stringify([it, rule.code, rows.length, counts, fallen.map(({ record }) => record)]), nodes };
 }
 

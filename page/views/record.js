@@ -15,6 +15,7 @@ import { factsOf as catalogueFacts, neighboursOf, receiptOf } from "./record_cat
 import * as content from "./record_content.js";
 import * as event from "./record_event.js";
 import * as files from "./record_files.js";
+import * as misfiled from "./record_misfiled.js";
 import { HistoryPart } from "./history.js";
 
 let shown = null;
@@ -92,6 +93,7 @@ function tell(record, rule) {
   content.offer(record);
   event.offer(record, rule);
   acts.offer(record);
+  misfiled.offer(record);
   tellMore(record, rule);
   past.tell("record", record.number);
   byId("record-told").hidden = false;
@@ -133,6 +135,7 @@ export function start() {
   content.start();
   event.start(readAnew);
   acts.start(readAnew, () => shown);
+  misfiled.start(readAnew);
   past = new HistoryPart("record-history");
   byId("record-told").append(past.node);
   onNumber("record", open);

@@ -2,7 +2,7 @@
 import { get } from "../ask.js";
 import { asking, byId, details, failed, inBytes, made, paragraph, quiet, save, say } from "../page.js";
 import { digestOf } from "../plain/certificates.js";
-import { fileName, kindOf, textOf } from "../plain/content.js";
+import { fileName, kindOf, mayBeShown, textOf } from "../plain/content.js";
 import { visible } from "../plain/marks.js";
 import { isMissing } from "../plain/outcomes.js";
 import { t } from "../texts.js";
@@ -120,6 +120,8 @@ export function offer(record) {
   hide();
   quiet(byId("record-saved"));
   byId("record-content").hidden = record.status === "ended";
+  byId("record-look").hidden = !mayBeShown(record.ref);
+  byId("record-unshown").hidden = mayBeShown(record.ref);
 }
 
 export function start() {

@@ -2,7 +2,7 @@
 // manifest of a file which is elsewhere.
 import { get } from "../ask.js";
 import { byId, details, factsOf, grouped, inBytes, made, paragraph, plural, save, say } from "../page.js";
-import { kindOf } from "../plain/content.js";
+import { kindOf, mayBeShown } from "../plain/content.js";
 import { visible } from "../plain/marks.js";
 import { isMissing } from "../plain/outcomes.js";
 import { LEAST_BYTES, filesIn, nameOf } from "../plain/vault.js";
@@ -78,8 +78,8 @@ function buttonOf(key, name, pressed) {
 
 /** What can be done with a file: a long one the browser saves by itself, and the page compares the saved copy. */
 function deedsOf(it, name, place, there) {
-  const look = buttonOf("look", name, () => lookAt(it, place, there));
-  look.className = "quiet";
+  const look = mayBeShown(it.place) ? buttonOf("look", name, () => lookAt(it, place, there)) : made("span", {}, t("content.unshown"));
+  look.className = mayBeShown(it.place) ? "quiet" : "hint";
   if (it.length <= MOST_SAVED) return [buttonOf("save", name, () => saveFile(it, place)), look];
   const long = made("a", { href: addressOf(subject.number, it.file), download: nameOf(it.place) }, t("files.saveLong", { name }));
   return [made("span", {}, long, " ", made("span", { class: "hint" }, t("files.long")))];

@@ -1,9 +1,10 @@
 // Runs: open one, carry it out, look for one by its number.
 import { get, post } from "../ask.js";
 import { onNumber, onSubmit, untick } from "../fields.js";
-import { asking, byId, details, factsOf, failed, link, made, paragraph, quiet, say, told } from "../page.js";
+import { asking, byId, details, factsOf, failed, grouped, link, made, paragraph, quiet, say, told } from "../page.js";
 import { openRun } from "../plain/acts.js";
 import { read } from "../plain/certificates.js";
+import { FATES } from "../plain/forecast.js";
 import { isNumber } from "../plain/forms.js";
 import { visible } from "../plain/marks.js";
 import { fatesOf, isMissing, jsonOf } from "../plain/outcomes.js";
@@ -34,22 +35,24 @@ async function open(values) {
   } else failed(place, answer);
 }
 
-const COUNTS = ["ended", "sent", "skipped"];
+/** The outcomes of a certificate's entries, by what the forecast calls them. */
+const OUTCOMES = { destroy: "destroyed", send: "sent", end: "transferred", skip: "skipped" };
 
-/** What a closed run did, by its certificate: how many records it ended, sent and skipped; in words, and as its result. */
+/** What a closed run did, by its certificate: how many records of each fate there are; in words, and as its result. */
 async function countsOf(number) {
   const answer = await get(`certificates/${number}`);
   if (answer.status !== 200) return { counts: [paragraph(t("run.countsUnread")), ...told(answer)], result: [] };
-  const certificate = read(answer.text);
-  const facts = factsOf(COUNTS.map((name) => [t(`run.counts.${name}`), visible(certificate[name] ?? "")]));
-  const none = COUNTS.every((name) => certificate[name] === "0") ? [paragraph(t("run.tookNone"))] : [];
-  return { counts: [facts, ...none], result: [paragraph(t("forecast.run.did", { number })), tilesOf(certificate), ...none.map((it) => it.cloneNode(true))] };
+  const { entries } = read(answer.text);
+  const countOf = (fate) => grouped(entries.filter(({ outcome }) => outcome === OUTCOMES[fate]).length);
+  const counts = FATES.map((fate) => [t(`forecast.run.fates.${fate}`), countOf(fate)]);
+  const none = entries.length ? [] : [paragraph(t("run.tookNone"))];
+  return { counts: [factsOf(counts), ...none], result: [paragraph(t("forecast.run.did", { number })), tilesOf(counts), ...none.map((it) => it.cloneNode(true))] };
 }
 
 /** The counts of a certificate as the forecast had its own. */
-function tilesOf(certificate) {
-  const tile = (name) => made("div", {}, made("dt", {}, t(`run.counts.${name}`)), made("dd", {}, visible(certificate[name] ?? "")));
-  return made("dl", { class: "totals", "aria-label": t("forecast.result") }, ...COUNTS.map(tile));
+function tilesOf(counts) {
+  const tile = ([word, count]) => made("div", {}, made("dt", {}, word), made("dd", {}, count));
+  return made("dl", { class: "totals", "aria-label": t("forecast.result") }, ...counts.map(tile));
 }
 
 /** Carries the open run out, if it would do what was shown of it. */

@@ -104,7 +104,7 @@ def reviewed(view: View) -> None:
     same("record 1: its due day", view.told(1, "due"), ("2026-01-02",))
     same("review: without a name nothing is sent", view.ask("review", day="2025-06-01"), "")
     same(
-        "review: which is said at the field", view.browser.text("#record-review-by-wrong"), TEXTS["fields"]["textWrong"]
+        "review: which is said at the field", view.browser.text("#record-review-by-wrong"), TEXTS["fields"]["textEmpty"]
     )
     says("review: one before the due day is refused, in words", view.ask("review", by=WHO), *refused(15))
     before = view.story.posted()
@@ -164,7 +164,7 @@ def own(view: View) -> None:
     same(
         "a code that is none is told at its field",
         (view.ask("class", **{"class": "A B"}), view.browser.text("#record-class-class-wrong"))[1],
-        TEXTS["fields"]["codeWrong"],
+        TEXTS["fields"]["codeSpaceOther"].format(other="A-B"),
     )
 
 

@@ -53,6 +53,7 @@ CONTENTS = [
     ("L/7", "Letter: to the mayor", "Grüße\n<b>not bold</b>\u202e".encode(), "L-7 Letter- to the mayor.txt"),
     ("D/1", "Unknown", b"\0\1\2\3", "D-1 Unknown.bin"),
     ("P/1", "Broken", b"\x89PNG\r\n\x1a\n and no more", "P-1 Broken.png"),
+    ("F/1.mp4", "The fair", b"\0\0\0\x18ftypmp42", "F-1 The fair.mp4"),
 ]
 
 
@@ -174,7 +175,7 @@ def approval(it: Browser, proxy: Proxy, folder: pathlib.Path) -> None:
 
 def looked(it: Browser, proxy: Proxy, numbers: list[int], folder: pathlib.Path) -> None:
     """Contents are looked at by their first bytes, and saved under ref, title and an extension."""
-    picture, pdf, text, other, broken = numbers
+    picture, pdf, text, other, broken, film = numbers
     def look(number):
         it.open(f"{proxy.page}#record?number={number}")
         it.press("#record-look")
@@ -185,6 +186,9 @@ def looked(it: Browser, proxy: Proxy, numbers: list[int], folder: pathlib.Path) 
     same("content: a text is text, with marks", it.text("#record-looked pre"), "Grüße\n<b>not bold</b>[U+202E]")
     says("content: what is none of these is not", look(other), "Content of this kind is not shown", "D-1 Unknown.bin")
     says("content: nor what begins like a picture and is none", look(broken), WORDS["broken"])
+    it.open(f"{proxy.page}#record?number={film}")
+    same("content: a film is not offered to be looked at", it.one("#record-look").is_displayed(), False)
+    says("content: which is said at once", it.seen("#record-content"), WORDS["unshown"])
     look(pdf)
     frame = it.one("#record-looked iframe")
     same("content: a PDF is in a frame that may ask for nothing", (frame.get_attribute("allow"), frame.get_attribute("src")[:5]), ("", "blob:"))

@@ -61,8 +61,7 @@ def run(it: Browser, proxy: Proxy, office: Office) -> None:
 
 def ended(it: Browser, fates: list[int]) -> None:
     """After a run the view says what it did, and no sentence says that one is open, or would do something, or did nothing."""
-    destroyed, sent, transferred, skipped = fates
-    same("run: its result is in the place of the forecast", run_shown(it), [destroyed + transferred, sent, skipped])
+    same("run: its result is in the place of the forecast, in the same words", run_shown(it), fates)
     shown = [it.text(f"#run-{name}") for name in ("forecast", "open-outcome", "resume-outcome")]
     runs = TEXTS["run"]
     others = [WORDS["is"], runs["tookNone"], *(WORDS["run"][name] for name in ("none", "noneOpen", "isOfNow")),
@@ -131,6 +130,10 @@ def rule(it: Browser, proxy: Proxy, story: Story) -> None:
     moves = it.table("#plan-rule-forecast .bydue")
     said = it.seen("#plan-rule-forecast")
     shown = {int(row[0]) for row in it.table("#plan-rule-forecast .fallen")}
+    sent = story.posted()
+    it.press("#plan-rule button:not([type])")
+    same("rule: without a tick no due day moves", (story.posted() - sent, it.text("#plan-rule-sure-wrong")), (0, TEXTS["fields"]["sureWrong"]))
+    it.press("#plan-rule-sure")
     it.press("#plan-rule button:not([type])")
     says("rule: the forecast says of when the class's schedule is", said, "By the catalogue of ", "class LET has schedule D-1.")
     says("rule: it is set", it.seen("#plan-rule-outcome"), TEXTS["plan"]["rule"]["done"].format(**{"class": "LET", "schedule": "D-2"}))
@@ -152,7 +155,9 @@ def newer(it: Browser, proxy: Proxy, story: Story) -> None:
     it.write(plan_schedule_code="OWN-3", plan_schedule_count="3")
     it.choose("#plan-schedule-trigger", "added")
     it.press("#plan-schedule button:not([type])")
-    it.write(plan_rule_class="LET", plan_rule_schedule="OWN-3")
+    same("rule: a schedule that was added is written where one is asked for",
+         [it.one(f"#plan-{form}-schedule").get_attribute("value") for form in ("class", "rule")], ["OWN-3"] * 2)
+    it.write(plan_rule_class="LET")
     it.wait(lambda: it.all("#plan-rule-forecast table"), "no forecast of the page's own schedule comes")
     judge("rule: the page knows the schedule that it has added", it.all("#plan-rule-forecast .bydue") != [])
     rule_ = {"trigger": "added", "unit": "years", "count": 4, "offset": "none", "action": "destroy"}

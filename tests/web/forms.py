@@ -57,6 +57,7 @@ return [...document.querySelectorAll("section:not([hidden]) select")].filter((it
   return it.selectedOptions.length > 0 && paint.measureText(it.selectedOptions[0].text).width > room;
 }).map((it) => it.id);
 """
+OFFERED = "return [...document.querySelector(arguments[0]).list.options].map((it) => it.value)"
 WROTE = "const it = document.querySelector(arguments[0]); it.value = arguments[1]; it.dispatchEvent(new Event('input', { bubbles: true }));"
 
 
@@ -94,6 +95,7 @@ def reasons(story: Story) -> None:
         it.press("#hold-lift button:not([type])")
         same("reason: with one it goes along", sent(it), [("lift-hold", REASON)])
         same("reason: and is empty again once that is done", it.one("#hold-lift-why").get_attribute("value"), "")
+        same("reason: and offered again", it.driver.execute_script(OFFERED, "#hold-lift-why"), [REASON])
         it.write(hold_lift_why="again")
         it.press("#hold-sure")
         it.press("#hold-lift button:not([type])")
@@ -231,6 +233,28 @@ def refused(story: Story) -> None:
          (TEXTS["file"]["allFiled"], "quiet"))
 
 
+def wrong(story: Story) -> None:
+    """What is wrong with a text is said, with what may have been meant; below a day of today it says that it is."""
+    it, words = story.browser, TEXTS["fields"]
+    before = story.posted()
+    it.open(f"{story.proxy.page}#holds")
+    for text, said in (("", words["codeEmpty"]), ("BAU.7", words["codeStrangeOther"].format(strange=".", other="BAU-7")),
+                       ("Q 1", words["codeSpaceOther"].format(other="Q-1")), ("Straße", words["codeStrangeOther"].format(strange="ß", other="Strasse")),
+                       ("x" * 17, words["codeLong"].format(count=17, most=16))):
+        it.write(hold_lift_code=text)
+        it.press("#hold-lift button:not([type])")
+        same(f"wrong: {text or 'nothing'} as a code", it.text("#hold-lift-code-wrong"), said)
+    for text, said in (("", words["textEmpty"]), ("ü" * 101, words["textLong"]["many"].format(count=2))):
+        it.driver.execute_script(WROTE, "#hold-place-reason", text)
+        it.press("#hold-place > button:last-of-type")
+        same(f"wrong: {len(text)} letters as a reason", it.text("#hold-place-reason-wrong"), said)
+    same("wrong: nothing of it is sent", story.posted(), before)
+    weekday = datetime.date.today().strftime("%A")
+    same("day: today is said in words", it.text("#hold-lift-day-hint"), words["dayToday"].format(weekday=weekday))
+    it.write(hold_lift_day=after(-1))
+    same("day: of another one it says how days are written", it.text("#hold-lift-day-hint"), words["dayHint"])
+
+
 def named(story: Story) -> None:
     it = story.browser
     it.open(f"{story.proxy.page}#holds")
@@ -284,7 +308,7 @@ def tell(office: Office, proxy: Proxy, browser: Browser, folder: pathlib.Path) -
     town.fill(office)
     town.renew(proxy, office)
     story = Story(office, proxy, browser, folder)
-    for part in (bookmark, looks, refused, named, returned, reasons, access):
+    for part in (bookmark, looks, refused, wrong, named, returned, reasons, access):
         try:
             part(story)
         except Exception as error:  # noqa: BLE001 -- one part that cannot be tried keeps no other one from being tried

@@ -86,7 +86,7 @@ def acts(it: Browser, proxy: Proxy) -> None:
     judge("German: the office's own answer is behind a summary", own in whole and own not in seen, whole)
     it.write(hold_lift_code="Q 1")
     it.press("#hold-lift button")
-    same("German: a wrong field is explained in German", it.text("#hold-lift-code-wrong"), GERMAN["fields.codeWrong"])
+    same("German: a wrong field is explained in German", it.text("#hold-lift-code-wrong"), GERMAN["fields.codeSpaceOther"].format(other="Q-1"))
     it.open(f"{proxy.page}#certificate?number=1")
     seen = it.seen("#certificate-verdict")
     judge(

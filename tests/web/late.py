@@ -141,7 +141,7 @@ class Form:
     def press(self) -> int:
         """Presses the button, with the tick that a lift, a closing and another schedule ask for, and counts what was sent."""
         before = self.story.posted()
-        tick = {"hold-lift": "#hold-sure", "plan-close": "#plan-close-sure", "plan-rule": "#plan-rule-blind"}.get(self.name)
+        tick = {"hold-lift": "#hold-sure", "plan-close": "#plan-close-sure", "plan-rule": "#plan-rule-forecast input"}.get(self.name)
         if tick:
             self.browser.wait(lambda: self.browser.all(tick), f"{self.name} asks for no tick")
             if not self.browser.one(tick).is_selected():
@@ -235,13 +235,13 @@ def carried_out(story: Story) -> None:
     it.go("#run")
     it.press("#run-sure")
     it.press("#run-resume button")
-    same("the run of the late day: its counts", counts(), ["3", "0", "0"])
+    same("the run of the late day: its counts", counts(), ["2", "0", "1", "0"])
     story.office.ask(
         "POST", "/acts", json.dumps([{"act": "open-run", "day": after(len(FORMS) + 1), "by": "Registrar"}])
     )
     it.press("#run-sure")
     it.press("#run-resume button")
-    same("a run that takes nothing: its counts", counts(), ["0", "0", "0"])
+    same("a run that takes nothing: its counts", counts(), ["0", "0", "0", "0"])
     says("and that it took nothing", it.seen("#run-resume-outcome"), TEXTS["run"]["tookNone"])
 
 

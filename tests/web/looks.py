@@ -22,6 +22,7 @@ VIEWS = {
     "holds": "#holds?code=Q-2020-17",
     "catalogue": "#catalogue",
     "fault": "#fault",
+    "accessibility": "#accessibility",
 }
 
 # the least contrast of any text that is seen with what is behind it, with that text

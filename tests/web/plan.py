@@ -199,14 +199,14 @@ def wrong(plan: Plan) -> None:
     it, before = plan.browser, plan.story.posted()
     fields = TEXTS["fields"]
     for form, written, field, word in (
-        ("plan-schedule", {"code": "A B", "count": "1"}, "code", fields["codeWrong"]),
+        ("plan-schedule", {"code": "A B", "count": "1"}, "code", fields["codeSpaceOther"].format(other="A-B")),
         ("plan-schedule", {"code": "A", "count": "501"}, "count", WORDS["fields"]["countHint"]),
         ("plan-schedule", {"code": "A", "count": "-1"}, "count", WORDS["fields"]["countHint"]),
-        ("plan-class", {"code": "A", "title": "x" * 201, "schedule": "A"}, "title", fields["textWrong"]),
-        ("plan-class", {"code": "A", "title": "A", "schedule": ""}, "schedule", fields["codeWrong"]),
+        ("plan-class", {"code": "A", "title": "x" * 201, "schedule": "A"}, "title", fields["textLong"]["one"].format(count=1)),
+        ("plan-class", {"code": "A", "title": "A", "schedule": ""}, "schedule", fields["codeEmpty"]),
         ("plan-aggregation", {"ref": "A", "title": "A", "parent": "01", "class": ""}, "parent", fields["numberWrong"]),
-        ("plan-close", {"aggregation": ""}, "aggregation", fields["numberWrong"]),
-        ("plan-reclassify", {"number": "1", "class": "x" * 17}, "class", fields["codeWrong"]),
+        ("plan-close", {"aggregation": ""}, "aggregation", fields["numberEmpty"]),
+        ("plan-reclassify", {"number": "1", "class": "x" * 17}, "class", fields["codeLong"].format(count=17, most=16)),
         ("plan-own", {"record": "4294967296", "schedule": ""}, "record", fields["numberWrong"]),
         ("plan-own", {"record": "1", "schedule": "", "day": "2023-02-29"}, "day", fields["dayWrong"]),
     ):

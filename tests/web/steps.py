@@ -118,8 +118,7 @@ def decided(town: Town) -> None:
         csv.writer(sheet).writerows([*row, word] for row, word in zip(rows, words, strict=True))
     town.open("import")
     town.it.files("#import-choose", [file])
-    town.shown("#import-column-by")
-    town.it.choose("#import-column-by", "same")
+    town.shown("#import-same-by")
     town.it.write("import_same_by", WHO)
     town.it.browser.driver.execute_script("document.activeElement.blur()")
     town.shown("#import-submit")
@@ -200,9 +199,9 @@ def class_on_hold(town: Town) -> None:
 
 
 def lift(town: Town) -> None:
-    """Lifted from where the catalogue leads to it, with what that would do."""
-    catalogue.renew(town.proxy, town.office)
-    town.open("holds?code=LAW-1")
+    """Lifted as soon as it is placed, with what that would do: the page knows its own acts before a catalogue has them."""
+    town.it.browser.go("#holds?code=LAW-1")
+    town.it.begin()
     says("lift: how many it covers is shown first", town.it.browser.seen("#hold-lift-forecast"), str(SITES))
     town.it.press("#hold-sure")
     town.it.press("#hold-lift button:not([type])")
@@ -281,9 +280,9 @@ def new_law(town: Town) -> None:
     town.it.write("plan_schedule_count", "40")
     town.it.press("#plan-schedule button:not([type])")
     town.it.write("plan_rule_class", "SITES")
-    town.it.write("plan_rule_schedule", "SITES-40")
     forecast = lambda: town.it.browser.all("#plan-rule-forecast table")
     town.it.browser.wait(forecast, "what it would do is not shown")
+    town.it.press("#plan-rule-sure")
     town.it.press("#plan-rule button:not([type])")
     now = town.told(f"/records/{town.numbers['SITES'][0]}")["due"]
     same("law: the due day is ten years later", int(now[:4]) - int(before[:4]), 10)
@@ -301,21 +300,21 @@ def own_rule(town: Town) -> None:
 TASKS: list[tuple[str, Callable[[Town], None], int]] = [
     ("what is overdue", overdue, 1),
     ("a due list to a department", department, 2),
-    ("its decisions come back", decided, 4),
+    ("its decisions come back", decided, 3),
     (f"confirm {LETTERS + PERMITS} that are due", quarter, 3),
     ("a run and its certificate", run, 5),
     ("a certificate for the auditor, checked", auditor, 3),
     (f"{CONTRACTS} reviews", reviews, 6),
     ("a search", search, 1),
     (f"a hold on {SITES} found records", found_on_hold, 6),
-    ("a hold on a class", class_on_hold, 7),
     ("lift a hold", lift, 3),
+    ("a hold on a class", class_on_hold, 7),
     (f"a contract of {LEASES} documents has ended", ended_contract, 6),
     (f"receipts for {MAPS}", receipts, 6),
     (f"close the year's {FILES} files", year_end, 6),
     ("file 12 documents", files, 4),
     (f"a sheet of {ROWS} records", sheet, 4),
-    ("another period for a class", new_law, 8),
+    ("another period for a class", new_law, 7),
     ("a schedule of its own for a record", own_rule, 6),
 ]
 

@@ -15,8 +15,8 @@ from place import TOP, full
 WHO = "R. Halloran, records manager"
 TEXTS = json.loads((TOP / "page/texts/en.json").read_text())
 # what the page says in the place of words that send people to the manual, or speak to programs
-for _part, _words in TEXTS["help"].items():
-    for _name, _do in _words.items():
+for _part in ("refusals", "proxy"):
+    for _name, _do in TEXTS["help"][_part].items():
         TEXTS[_part][_name]["do"] = _do
 YES = {True: "yes", False: "no"}
 # the numbers of requests that mark where nginx's log is
@@ -111,21 +111,22 @@ class Story:
     def wrong_input(self):
         it, before = self.browser, self.asked_for()
         fields, texts = TEXTS["fields"], lambda css: it.text(css)
+        spaced = fields["codeSpaceOther"].format(other="Q-1")
         for view, form, wrong, (field, text) in (
-            ("#due", "due-form", {"due_day": "2023-02-29"}, ("due-day", "dayWrong")),
-            ("#record", "record-form", {"record_number": "01"}, ("record-number", "numberWrong")),
-            ("#certificate", "certificate-form", {"certificate_number": "4294967296"}, ("certificate-number", "numberWrong")),
-            ("#run", "run-form", {"run_number": "one"}, ("run-number", "numberWrong")),
-            ("#run", "run-open", {"run_open_day": "3000-01-01", "run_open_by": "x" * 201}, ("run-open-by", "textWrong")),
-            ("#run", "run-resume", {}, ("run-sure", "sureWrong")),
-            ("#holds", "hold-place", {"hold_place_code": "Q 1"}, ("hold-place-code", "codeWrong")),
-            ("#holds", "hold-on", {"hold_on_code": "Q-1", "hold_on_target": "Q 1"}, ("hold-on-target", "codeWrong")),
-            ("#holds", "hold-lift", {"hold_lift_code": "Q-1"}, ("hold-sure", "sureWrong")),
+            ("#due", "due-form", {"due_day": "2023-02-29"}, ("due-day", fields["dayWrong"])),
+            ("#record", "record-form", {"record_number": "01"}, ("record-number", fields["numberWrong"])),
+            ("#certificate", "certificate-form", {"certificate_number": "4294967296"}, ("certificate-number", fields["numberWrong"])),
+            ("#run", "run-form", {"run_number": "one"}, ("run-number", fields["numberWrong"])),
+            ("#run", "run-open", {"run_open_day": "3000-01-01", "run_open_by": "x" * 201}, ("run-open-by", fields["textLong"]["one"].format(count=1))),
+            ("#run", "run-resume", {}, ("run-sure", fields["sureWrong"])),
+            ("#holds", "hold-place", {"hold_place_code": "Q 1"}, ("hold-place-code", spaced)),
+            ("#holds", "hold-on", {"hold_on_code": "Q-1", "hold_on_target": "Q 1"}, ("hold-on-target", spaced)),
+            ("#holds", "hold-lift", {"hold_lift_code": "Q-1"}, ("hold-sure", fields["sureWrong"])),
         ):
             it.go(view)
             it.write(**wrong)
             it.press(f"#{form} button:not([type])")
-            same(f"{form}: a wrong value is told at its field", texts(f"#{field}-wrong"), fields[text])
+            same(f"{form}: a wrong value is told at its field", texts(f"#{field}-wrong"), text)
             judge(f"{form}: and the field is told as invalid", it.one(f"#{field}").get_attribute("aria-invalid") == "true")
             first = it.driver.execute_script("return document.activeElement.getAttribute('aria-invalid')")
             same(f"{form}: and the first such field has the focus", first, "true")
@@ -191,7 +192,8 @@ class Story:
         it.press("#run-sure")
         it.press("#run-resume button")
         self.success(f"run {number}: it is closed", "#run-resume-outcome", f'200 {{"certificate":{number}}}', f"Run {number} is carried out and closed.")
-        counts = re.findall(r"^(?:ENDED|SENT|SKIPPED) (\d+)$", self.office.ask("GET", f"/certificates/{number}")[2].decode(), re.M)
+        outcomes = re.findall(r"^ENTRY\t\d+\t(\w+)\t", self.office.ask("GET", f"/certificates/{number}")[2].decode(), re.M)
+        counts = [str(outcomes.count(outcome)) for outcome in ("destroyed", "sent", "transferred", "skipped")]
         same(f"run {number}: its counts are those of its certificate", list(it.facts("#run-resume-outcome").values()), counts)
         it.press("#run-sure")
         it.press("#run-resume button")
@@ -331,7 +333,7 @@ class Story:
         it.open(f"{self.proxy.page}#record?number=20")
         it.press("#record-save")
         row = TEXTS["faults"]["33"]
-        self.success("a content that is not its record's is a 503 that is told in words", "#record-saved", '503 {"fault":33}', "Fault 33", row["meaning"], row["do"])
+        self.success("a content that is not its record's is a 503 that is told in words", "#record-saved", '503 {"fault":33}', "Fault 33", row["meaning"], TEXTS["help"]["faults"]["33"])
         self.content_503 = self.office.ask("GET", "/records/20/content")
         self.office.stop()
         for end in ("", "-wal", "-shm"):
@@ -358,7 +360,7 @@ class Story:
         sent = self.posted()
         it.press("#due-submit")
         told, row = it.seen("#due-answer"), TEXTS["faults"]["31"]
-        says("a fault that stops the acts is a 503 that is told in words", told, "Fault 31", row["meaning"], row["do"], "A fault stopped it.", "is unknown", "those after it were not.")
+        says("a fault that stops the acts is a 503 that is told in words", told, "Fault 31", row["meaning"], TEXTS["help"]["faults"]["31"], "A fault stopped it.", "is unknown", "those after it were not.")
         says("then the office has ended, which the list tells", it.seen("#due-outcome"), TEXTS["proxy"]["502"]["meaning"])
         judge("and that without a page of nginx", "<" not in it.text("#due-outcome"), it.text("#due-outcome"))
         says("and that the list is older", told, TEXTS["due"]["stale"])

@@ -112,6 +112,31 @@ def there(texts, key):
     return part is not None
 
 
+# what speaks to programs or administrators: pages of the manual, paths, commands, lines of a head
+FOR_OTHERS = re.compile(r"[A-Z]{3,}\.md|GET /|Office-[A-Z]|office [a-z]+ FILE|office-[a-z]+|sqlite3|serve runs|fix the|\bAllow\b|den Client")
+# the parts whose words are the manual's, with others for people beside them
+TABLED = ("refusals", "faults", "statuses", "members", "proxy", "help")
+
+
+def to_do(texts):
+    """What people are told to do, by what they are told it for: as the page chooses between the words of the manual and others."""
+    own = texts["help"]
+    found = {f"{part} {name}": own[part].get(name, row["do"]) for part in ("refusals", "faults", "proxy") for name, row in texts[part].items()}
+    for row in [*texts["statuses"], *texts["members"]]:
+        for status in row["status"].split(", "):
+            for word in re.findall(r'"(\w+)"(?!:)', row["body"]) or (["fault"] if "fault" in row["body"] else []):
+                found[f"{status} {word}"] = own["statuses"].get(f"{status} {word}", row["do"])
+    return found
+
+
+def for_people(file):
+    """Nobody who uses the page is sent to a page of the manual, to a command, or to a line of a head."""
+    texts = json.loads(file.read_text())
+    rest = flat({name: part for name, part in texts.items() if name not in TABLED})
+    wrong = {key: text for key, text in {**rest, **to_do(texts)}.items() if FOR_OTHERS.search(text)}
+    same(f"page/texts/{file.name} sends nobody to what is for programs and administrators", wrong, {})
+
+
 def addresses(page):
     """The views that the addresses of docs/WEB.md name, each once, in the order of its table."""
     cells = [row[1] for row in table(page, "What each view does")]
@@ -133,6 +158,7 @@ def tell():
     judge("there are English and German", {"en", "de"} <= {file.stem for file in files}, str(files))
     for file in files:
         language(file, flat(english))
+        for_people(file)
     shown = addresses((TOP / "docs/WEB.md").read_text())
     same("docs/WEB.md has the address of each view", sorted(shown), sorted(views(TOP / "page")))
     missing = sorted(key for key in named(TOP / "page") if not there(english, key) and not key.endswith(".js"))

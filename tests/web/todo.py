@@ -15,6 +15,8 @@ from story import TEXTS, Story, says
 
 WORDS = TEXTS["todo"]
 NAME = {"name": "City archive \"Alder\\quay\"", "colour": "#7a1f3d"}
+ADDRESSES = {"contact": "mailto:archive@alderquay.example", "help": "https://intranet.example/records", "statement": "javascript:alert(1)"}
+FOOT = "return Array.from(document.querySelectorAll('#foot a'), (it) => it.getAttribute('href'))"
 CURRENT = "return document.querySelector('nav a[aria-current]')?.hash"
 COLOUR = "return getComputedStyle(document.querySelector('header')).borderTopColor"
 
@@ -96,6 +98,15 @@ def named(it: Browser, proxy: Proxy) -> None:
         same(f"{view}: the name of the office is at its head and in its title", (it.seen("#office-name"), it.driver.title),
              (NAME["name"], f"{TEXTS[view]['title']} · {NAME['name']}"))
     same("and its colour", it.driver.execute_script(COLOUR), "rgb(122, 31, 61)")
+    same("foot: without addresses it leads to accessibility alone", it.driver.execute_script(FOOT), ["#accessibility"])
+    it.one("#foot a").click()
+    it.settled()
+    says("foot: which says whom to tell", it.seen("#accessibility"), TEXTS["accessibility"]["feedback"]["nobody"])
+    (proxy.folder / "name.json").write_text(json.dumps({**NAME, **ADDRESSES}))
+    it.open(f"{proxy.page}#accessibility")
+    same("foot: the administrator's addresses are there, and no other ones", it.driver.execute_script(FOOT),
+         [ADDRESSES["help"], ADDRESSES["contact"], "#accessibility"])
+    says("foot: the contact is who is told", it.seen("#accessibility"), "Write to archive@alderquay.example.")
     (proxy.folder / "name.json").write_text('{"name": 7, "colour": "url(x)"}')
     it.open(f"{proxy.page}#run")
     same("a name that is none is not taken", it.seen("#office-name"), TEXTS["page"]["name"])

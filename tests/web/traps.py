@@ -32,6 +32,14 @@ const range = document.createRange();
 range.selectNodeContents(rows.find(({ cells }) => cells[2].firstChild.data === arguments[0]).cells[2].firstChild);
 return new Set(Array.from(range.getClientRects(), (it) => Math.round(it.top))).size;
 """
+# the lines that this text takes as the first ref of the catalogue
+LINES_IN_CATALOGUE = """
+const cell = document.querySelector("#catalogue-part tbody tr").cells[2];
+cell.textContent = arguments[0];
+const range = document.createRange();
+range.selectNodeContents(cell);
+return new Set(Array.from(range.getClientRects(), (it) => Math.round(it.top))).size;
+"""
 SEEN = "const it = arguments[0].getBoundingClientRect(); return it.bottom <= innerHeight + 1 && it.top >= 0"
 # the request for the server's time waits until it is let go
 HELD_BACK = """
@@ -132,11 +140,13 @@ def marks(story: Story) -> None:
 
 
 def refs(story: Story) -> None:
-    """A long ref is on one line of Due, with its title below it."""
+    """A long ref is on one line of Due, with its title below it, and of the catalogue."""
     town.send(story.office, [town.record(after(0), LONG, 1)])
     it = story.browser
     it.open(f"{story.proxy.page}#due?day={after(800)}")
     same("due: a ref of 22 letters is on one line", it.driver.execute_script(LINES_OF_REF, LONG), 1)
+    it.open(f"{story.proxy.page}#catalogue")
+    same("catalogue: one of 18 letters too", it.driver.execute_script(LINES_IN_CATALOGUE, "EIN/3/2021-05/1581"), 1)
 
 
 def days(story: Story) -> None:

@@ -93,7 +93,7 @@ def deeds(stage: Stage, name: str) -> dict[str, Deed]:
         "add-schedule": Deed("plan", "plan-schedule", {"code": f"S{mark}", "count": "1"}),
         "add-class": Deed("plan", "plan-class", {"code": f"K{mark}", "title": "t", "schedule": "D0"}),
         "set-class-schedule": Deed("plan", "plan-rule", {"class": f"BLDG-Z{mark}", "schedule": "T0"},
-                                   tick="plan-rule-blind"),
+                                   tick="plan-rule-forecast input"),
         "add-aggregation": Deed("plan", "plan-aggregation", {"ref": f"more{mark}", "title": "t", "class": "BLDG1"}),
         "close-aggregation": Deed("plan", "plan-close", {"aggregation": str(stage.closing)}, tick="plan-close-sure"),
         "reclassify": Deed("plan", "plan-reclassify", {"number": records["class"], "class": f"BLDG-Z{mark}"}, of_hold),

@@ -39,7 +39,9 @@ FORMS = {"plan": {"add-schedule": "#plan-schedule", "add-class": "#plan-class", 
                      "review": "#overdue-list [data-deed=review]",
                      "set-record-schedule": "#overdue-list [data-deed=schedule]",
                      "hold-on": "#overdue-list [data-deed=hold]"},
-         "catalogue": {"event": "#catalogue-panel [data-deed=event]", "review": "#catalogue-panel [data-deed=review]",
+         "catalogue": {"confirm": "#catalogue-panel [data-deed=confirm]",
+                       "event": "#catalogue-panel [data-deed=event]",
+                       "review": "#catalogue-panel [data-deed=review]",
                        "set-record-schedule": "#catalogue-panel [data-deed=schedule]",
                        "receipt": "#catalogue-panel [data-deed=receipt]",
                        "hold-on": "#catalogue-panel [data-deed=hold]"}}
@@ -65,7 +67,8 @@ ACTING = {"plan-schedule": "add-schedule", "plan-class": "add-class", "plan-rule
           "record-review": "review", "record-schedule": "set-record-schedule", "record-class": "reclassify",
           "record-receipt": "receipt", "due-confirm": "confirm", "overdue-confirm": "confirm", "file-send": "add-record",
           "deed event": "event", "deed review": "review", "deed schedule": "set-record-schedule", "deed hold": "hold-on",
-          "deed receipt": "receipt", "deed close": "close-aggregation"}
+          "deed receipt": "receipt", "deed close": "close-aggregation", "deed confirm": "confirm",
+          "record-misfiled": "set-record-schedule"}
 
 
 def tried(folder: pathlib.Path) -> None:

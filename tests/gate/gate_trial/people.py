@@ -103,6 +103,21 @@ def histories(proxy: Proxy, language: str) -> None:
         it.open("record?number=3")
         judge("record 3: the class of the moment, and before", words["own"] in rows_of(it, "#record-history")[0][2]
               and "BLDG1" in rows_of(it, "#record-history")[0][2], rows_of(it, "#record-history"))
+        said = it.one("#record-told").text
+        judge("record 3: that its history has the rest", texts(language, "page")["inHistory"] in said and texts(language, "record")["more"] not in said, said)
+        it.open("catalogue?part=classes")
+        it.press("#catalogue-part a[href*='code=BLDG1']")
+        it.settled()
+        same("class BLDG1: alone", [row[0] for row in rows_of(it, "#catalogue-part > table")], ["BLDG1"])
+        unfold(it, "#catalogue-history")
+        given = [words["kinds"]["set-class-schedule"].format(**{"class": "BLDG1", "schedule": code}) for code in ("D0", "T0")]
+        same("class BLDG1: who gave it which schedule, and why",
+             [(row[1].split(" · ")[-1], row[3]) for row in rows_of(it, "#catalogue-history") if row[2].startswith(tuple(given))],
+             [("records-manager", "put right"), ("records-manager", "a mistake")])
+        it.picture("class-history")
+        it.open("catalogue?part=schedules&code=D0")
+        unfold(it, "#catalogue-history")
+        judge("schedule D0: who added it", rows_of(it, "#catalogue-history")[-1][2] == words["kinds"]["add-schedule"].format(code="D0"))
         it.open("catalogue?part=records&aggregation=1")
         unfold(it, "#catalogue-history")
         same("aggregation 1", len(rows_of(it, "#catalogue-history")), 4)

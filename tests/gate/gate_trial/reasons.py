@@ -62,7 +62,7 @@ def places(it: Browser, stage: Stage) -> None:
         same(f"reasons: the fields of {view}", fields(it), forms)
     it.open(f"record?number={stage.records['event']}")
     it.driver.execute_script("for (const it of document.querySelectorAll('details.act')) it.open = true")
-    same("reasons: the fields of a record", fields(it), {"record-schedule", "record-class"})
+    same("reasons: the fields of a record", fields(it), {"record-schedule", "record-class", "record-misfiled"})
 
 
 def lifted(it: Browser, stage: Stage, world: World) -> None:
