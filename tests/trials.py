@@ -50,7 +50,7 @@ LANDING = [
     *parts_of("tests/vault/run", f"{VAULT} nodejs", page=300),
     Trial("tests/vault/run nginx", "", needs=f"{VAULT} nginx", limit=600),
     *parts_of("tests/setup/run", SETUP, first=200, drift=600, wrong=300, second=300, lost=200, kept=300, back=200,
-              people=300, upgrade=200, doctor=300),
+              people=300, signing=300, upgrade=200, doctor=300),
     *parts_of("tests/signin/run", SIGNIN, settings=100, forms=200, gates=300, sessions=200, forged=100),
     *parts_of("tests/signin/run", f"{SIGNIN} faketime", clock=100),
     *parts_of("tests/transfer/run", TOOLS, lists=400, seals=400, keys=300, wrong=300, again=300, forged=200, odd=200,
