@@ -55,14 +55,19 @@ WRONG = (
 """what stands in the file, what is in its place, and what the message says after the name of the file"""
 
 
-def judge_made(room: Room) -> dict[str, str]:
-    """A file with [sign_in] becomes all that office-sign-in needs. Returns the secrets that were shown."""
+def declared(room: Room) -> None:
+    """Writes the file of an office with [sign_in]."""
     done = room.setup("new", "city", "--site", SITE, "--sign-in", "directory")
     judge("`new` names the file of the secret", done.status == 0 and f"{FOLDER}/reader: write the secret" in done.out, done)
     room.change("/etc/office/city.toml", '#mail = "admin@records.city.example"', 'mail = "it@city.example"')
     room.change("/etc/office/city.toml", '"Records Registry" = ', "'the \"registry\"' = ")
     text = re.sub(r"#\[sign_in\.local\]\n(#.*\n)+", NAMES, room.text("/etc/office/city.toml"))
     room.put("/etc/office/city.toml", text)
+
+
+def judge_made(room: Room) -> dict[str, str]:
+    """A file with [sign_in] becomes all that office-sign-in needs. Returns the secrets that were shown."""
+    declared(room)
     before = room.tree()
     done = room.setup("apply")
     judge("without the password of the reader nothing begins", done.status == 2 and done.error.startswith(
@@ -306,7 +311,7 @@ def judge_doctor(room: Room) -> None:
 
 
 def signing(folder: pathlib.Path) -> None:
-    """One office, then two, whose people sign in by a directory, then by passwords, then by a provider."""
+    """One office, whose people sign in by a directory."""
     with Room(folder) as room:
         shown = judge_made(room)
         judge_files(room)
@@ -317,6 +322,16 @@ def signing(folder: pathlib.Path) -> None:
         judge_people(room)
         judge_drift(room)
         judge_secrets(room, shown)
+
+
+def signed(folder: pathlib.Path) -> None:
+    """One office, then two, whose people sign in by a directory, then by passwords, then by a provider."""
+    with Room(folder) as room:
+        os.environ.update(room.variables())
+        shutil.copy(STUB, room.commands / "office-gate")
+        declared(room)
+        room.put(f"{FOLDER}/reader", "secret\n")
+        passed(room, applying.apply)
         judge_back(room)
         judge_two(room)
         judge_ended(room)

@@ -11,6 +11,7 @@ from kit.commands import TOP
 from kit.days import today
 from kit.judging import judge, same
 from kit.systemd import Boot
+from kit.waiting import comes
 from setup_trial.by_page import LEFT
 from setup_trial.city import CURL, OWN_FILES, SITE, City
 from signin_trial.slapd import BASE, CONF, PASSWORDS, READER, READER_PASSWORD, ROOT, ROOT_PASSWORD, ldif
@@ -77,6 +78,7 @@ class Machine(City):
 def judge_all(machine: Machine) -> None:
     judge_set_up(machine)
     judge_people(machine)
+    judge_watched(machine)
     judge_local(machine)
     judge_rotation(machine)
     judge_power_cut(machine)
@@ -115,6 +117,7 @@ def judge_people(machine: Machine) -> None:
              "day": today()}]
     same("and lets him act", machine.as_("bert", "/city/acts", plan), '[{"done":true}] 200')
     same("anna signs in too", machine.form("anna", PASSWORDS["anna"]), "303")
+    judge("with the role of her group", comes(lambda: '"roles":["registry"]' in machine.as_("anna", "/city/rights"), 60))
     same("and makes no plan", machine.as_("anna", "/city/acts", plan), '{"act":"add-schedule","error":"right","place":0} 403')
     same("a wrong password", machine.form("dora", "wrong"), "401")
     same("whoever has no role", machine.form("carl", PASSWORDS["carl"]), "403")
@@ -129,6 +132,21 @@ def judge_people(machine: Machine) -> None:
     token = machine.run(f"{CURL} --user intake:{machine.passwords['intake']} --write-out ' %{{http_code}}' https://{SITE}/city/rights").out
     judge("a program comes in by its token", '"name":"intake"' in token and token.endswith(" 200"), token)
     machine.judge_same("after sign-ins")
+
+
+def judge_watched(machine: Machine) -> None:
+    """The unit of doctor finds what the command finds, and a closed office is closed at once."""
+    done = machine.run("mkdir -p /var/lib/prometheus/node-exporter && systemctl start office-doctor && cat /var/lib/prometheus/node-exporter/office.prom")
+    wells = dict(re.findall(r'office_check_well\{office="\w*",check="([a-z-]+)"\} ([01])', done.out))
+    by_hand = machine.run("office-setup doctor").out
+    same("the unit of doctor finds what the command finds", sum(it == "0" for it in wells.values()), by_hand.count("WRONG"))
+    judge("of sign-in too", wells.get("sign-in-people") == wells.get("https") == wells.get("room") == "1" and len(wells) > 12, done)
+    machine.run("office-setup close city --until 23:59")
+    closed = machine.run(f"time {CURL} --cookie /tmp/bert.jar https://{SITE}/city/records/1")
+    judge("who asks a closed office gets that at once", '"error":"closed"' in closed.out and "23:59" in closed.out
+          and re.search(r"real\s+0m[0-9]\.", closed.error), closed)
+    machine.run("office-setup open city")
+    same("and it is opened", machine.as_("bert", "/city/records/1"), '{"error":"record"} 404')
 
 
 def judge_local(machine: Machine) -> None:
