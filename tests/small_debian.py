@@ -27,6 +27,13 @@ PACKAGES = {
     "signin": "adduser,curl,e2fsprogs,ldap-utils,libnginx-mod-http-js,logrotate,nftables,nginx-light,openssh-client,"
               "openssl,procps,python3,python3-aiohttp,python3-h11,python3-ldap3,slapd,sqlite3,systemd,"
               "systemd-sysv",
+    # with a provider: LemonLDAP::NG, and what its OpenID Connect and its LDAP need
+    "llng": "adduser,curl,e2fsprogs,ldap-utils,lemonldap-ng,lemonldap-ng-fastcgi-server,libapache-session-browseable-perl,"
+            "libconvert-base32-perl,libcrypt-openssl-bignum-perl,libdbi-perl,libemail-sender-perl,libgd-securityimage-perl,"
+            "libio-socket-timeout-perl,libio-string-perl,libipc-run-perl,liblwp-protocol-https-perl,libmime-tools-perl,"
+            "libnet-ldap-perl,libnginx-mod-http-js,libstring-random-perl,libunicode-string-perl,libxml-simple-perl,logrotate,"
+            "nftables,nginx-light,openssh-client,openssl,procps,python3,python3-aiohttp,python3-cryptography,python3-h11,"
+            "python3-jwt,slapd,sqlite3,systemd,systemd-sysv",
     "replicas": "adduser,python3,python3-h11,sqlite3,systemd,systemd-sysv,etcd-server,etcd-client,openssl,curl,"
                 "keepalived,nftables,iproute2,nginx-light,openssh-server",
 }

@@ -56,9 +56,13 @@ export const isOfOffice = (texts, answer) => isSuccess(answer) || explainedOffic
 
 /** The explanation of an answer of the proxy: by the word of its body if there is one for that, else by its status. */
 function explainedProxy(texts, answer) {
-  const names = [`${answer.status} ${jsonOf(answer)?.error}`, String(answer.status)];
+  const body = jsonOf(answer);
+  const names = [`${answer.status} ${body?.error}`, String(answer.status)];
   const name = names.find((it) => it in texts.proxy);
-  return name && { ...texts.proxy[name], ...forPeople(texts, "proxy", name) };
+  if (!name) return undefined;
+  const row = { ...texts.proxy[name], ...forPeople(texts, "proxy", name) };
+  // up to when an office is closed
+  return typeof body?.until === "string" ? { ...row, meaning: `${row.meaning} (${body.until})` } : row;
 }
 
 /** The explanations of an answer, each with a meaning and with what to do; none where nothing is known of it. */

@@ -16,7 +16,7 @@ def serve(options: argparse.Namespace) -> int:
     except ModuleNotFoundError as error:
         raise Refused(2, f"there is no {error.name}: apt-get install python3-aiohttp python3-h11") from error
     paths = starting.Paths(options.settings, options.journal, options.state, options.token, options.catalogue,
-                           options.socket, options.office_token, options.office_reader)
+                           options.socket, options.office_token, options.office_reader, options.closed)
     running.run(paths, options.office)
     return 0
 
@@ -66,7 +66,7 @@ def command_parser() -> argparse.ArgumentParser:
     sub.add_argument("--office", required=True, metavar="HOST:PORT")
     for name in ("settings", "journal", "state", "token"):
         sub.add_argument(f"--{name}", type=Path, required=True)
-    for name in ("catalogue", "socket", "office-token"):
+    for name in ("catalogue", "socket", "office-token", "closed"):
         sub.add_argument(f"--{name}", type=Path)
     sub.add_argument("--office-reader", metavar="NAME")
     sub = kinds.add_parser("check", help=check.__doc__, allow_abbrev=False)

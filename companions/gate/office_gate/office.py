@@ -11,6 +11,7 @@ from typing import Any
 
 from office_gate import asking
 from office_gate.errors import Answered, Refused, say
+from office_gate.standing import Standing
 from office_gate.stating import Stating
 from office_gate.turns import Turns
 
@@ -59,6 +60,7 @@ class Office:
             raise Refused(2, f"--office '{address}' is no HOST:PORT")
         self.address, self.at = address, (host, int(port))
         self.turns = Turns(AT_ONCE)
+        self.standing = Standing()
         # what states who asks, to an office that decides too
         self.stating: Stating | None = None
         # whether the last answer was that of a member, or None before the first one
@@ -98,7 +100,9 @@ class Office:
     async def post(self, name: str, path: str, body: bytes | None, lines: dict[str, str], ends: float) -> Answer:
         """Sends what acts for a name, once, up to that moment at the latest."""
         request = asking.request("POST", self.address, path, body, lines | self.stated(name))
-        return await self.answer_to(name, request, ends)
+        answer = await self.answer_to(name, request, ends)
+        self.standing.acted(answer.status, answer.body)
+        return answer
 
     async def answer_to(self, name: str, request: asking.OfficeRequest, ends: float) -> Answer:
         while True:
@@ -109,6 +113,7 @@ class Office:
                 raise Answered(503, "office")
             if answer is not None and not is_closed(answer):
                 return answer
+            self.standing.need_open()
             if time.monotonic() >= ends:
                 raise Answered(503, "office")
             await asyncio.sleep(TRY_SECONDS)

@@ -134,6 +134,8 @@ class Reading:
             raise Answered(503, "clock")
         if self.gate.facts.office_day() > deciding.today(self.gate.access):
             raise Answered(503, "day")
+        if self.gate.office.standing.has_fault():
+            raise Answered(503, "fault")
         answer = await self.own("/records/1")
         if answer.status == 200:
             return given({"records": True})

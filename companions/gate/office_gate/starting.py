@@ -16,6 +16,7 @@ from office_gate.gate import Gate
 from office_gate.journal import Journal
 from office_gate.office import Office
 from office_gate.own_catalogue import OwnCatalogues
+from office_gate.standing import Standing
 from office_gate.stating import Stating, check_reader
 
 LEAST_TOKEN = 32
@@ -34,6 +35,8 @@ class Paths:
     # the secret of an office that decides too, and the name by which the gate itself asks
     office_token: Path | None = None
     office_reader: str | None = None
+    # what an administrator who closes the office writes
+    closed: Path | None = None
 
 
 def token_of(path: Path) -> str:
@@ -58,6 +61,7 @@ def opened(paths: Paths, address: str) -> Gate:
                 ActsIndex(paths.state / "history.db", paths.journal), OwnCatalogues(paths.state / "catalogues"),
                 Clock(paths.state, moment_of(last) if last else None))
     gate.office.stating = stating_of(paths, gate)
+    gate.office.standing = Standing(paths.closed)
     return gate
 
 

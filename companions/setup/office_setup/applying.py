@@ -4,7 +4,7 @@ import importlib.util
 from collections.abc import Callable, Iterable, Iterator, Sequence
 
 from office_common.errors import IMPOSSIBLE, USAGE, Refused
-from office_setup import declared, keys, machine_things, office_things
+from office_setup import declared, keys, machine_things, office_things, sign_in
 from office_setup.declared import Office
 from office_setup.machine import OFFICES, Machine
 from office_setup.made import Made
@@ -15,6 +15,9 @@ COMMANDS = {"nginx": "nginx", "nft": "nftables", "ssh-keygen": "openssh-client",
             "sqlite3": "sqlite3", "logrotate": "logrotate"}
 FILES = {"/usr/lib/nginx/modules/ngx_http_js_module.so": "libnginx-mod-http-js"}
 MODULES = {"aiohttp": "python3-aiohttp", "h11": "python3-h11"}
+OF_WAYS = {"directory": {"ldap3": "python3-ldap3"},
+           "provider": {"jwt": "python3-jwt", "cryptography": "python3-cryptography"}}
+"""what the ways to sign in need besides"""
 Print = Callable[[str], None]
 
 
@@ -24,8 +27,11 @@ def check_packages(machine: Machine, offices: Sequence[Office]) -> None:
         return
     packages = {package for command, package in COMMANDS.items() if not machine.has_command(command)}
     packages |= {package for path, package in FILES.items() if not machine.at(path).exists()}
-    packages |= {package for module, package in MODULES.items() if importlib.util.find_spec(module) is None}
-    if any(office.morning or office.failed for office in offices) and not machine.has_command("mail"):
+    shared = offices[0].signing.shared if offices[0].signing else {}
+    modules = MODULES | {module: package for way in OF_WAYS if way in shared for module, package in OF_WAYS[way].items()}
+    packages |= {package for module, package in modules.items() if importlib.util.find_spec(module) is None}
+    has_mail = "mail" in shared or any(office.morning or office.failed for office in offices)
+    if has_mail and not machine.has_command("mail"):
         packages.add("bsd-mailx")
     if packages:
         raise Refused(USAGE, f"packages are missing: apt-get install {' '.join(sorted(packages))}")
@@ -58,6 +64,7 @@ class Pass:
         # the product's files changed behind the links, which are as they were
         self.is_nginx_changed = is_upgrade
         self.then: list[Command] = []
+        self.back: list[Command] = []
         self.started: set[str] = set()
         self.passwords: list[tuple[str, str]] = []
 
@@ -81,6 +88,9 @@ class Pass:
             self.is_nginx_changed = True
             if thing.path is not None:
                 self.undo.note(thing.path)
+        for path in thing.restores:
+            self.undo.note(path)
+        self.back += [command for command in thing.back if command not in self.back]
         for line in thing.make(self.made):
             self.out(line)
         if isinstance(thing, Unit) and thing.is_on:
@@ -110,11 +120,13 @@ class Pass:
 
     @contextlib.contextmanager
     def going_back(self) -> Iterator[None]:
-        """Restores the files of nginx if an exception ends the block."""
+        """Restores the files of nginx, and those that belong to them, if an exception ends the block."""
         try:
             yield
         except BaseException:
             self.undo.put_back()
+            for command in self.back:
+                self.machine.run(*command)
             raise
 
     def reload_nginx(self) -> None:
@@ -135,15 +147,14 @@ def go_over(work: Pass, offices: Sequence[Office], some: Sequence[Office]) -> No
     # a mistake in a declaration is found before anything changes
     machine_things.check_site(machine, offices, work.made)
     machine_things.check_certificate(machine, offices[0])
+    sign_in.check(machine, offices)
     for office in some:
         office_things.check_first(machine, office)
-    lists = [list(office_things.things_of(machine, office, offices)) for office in some]
+    lists = [list(sign_in.things(machine, offices, work.show)),
+             *(list(office_things.things_of(machine, office, offices)) for office in some)]
     # a port is closed to others before an office listens there
     go_over_rules(work, offices)
-    for things in lists:
-        work.over(things)
-        work.run_then()
-    go_over_site(work, offices)
+    go_over_site(work, offices, lists)
 
 
 def go_over_rules(work: Pass, offices: Sequence[Office]) -> None:
@@ -152,14 +163,18 @@ def go_over_rules(work: Pass, offices: Sequence[Office]) -> None:
     work.run_then()
 
 
-def go_over_site(work: Pass, offices: Sequence[Office]) -> None:
-    """Goes over the files of nginx and the passwords, and reloads nginx."""
+def go_over_site(work: Pass, offices: Sequence[Office], lists: Sequence[Sequence[Thing]]) -> None:
+    """Goes over lists of things, then over the files of nginx and the passwords, and reloads nginx."""
     try:
         with work.going_back():
+            for things in lists:
+                work.over(things)
+                work.run_then()
             work.over(machine_things.nginx(work.machine, offices))
             work.over(keys.passwords(work.machine, offices, work.show))
             work.reload_nginx()
         work.over([Unit(work.machine, "nginx.service")])
+        work.over(list(sign_in.ending(work.machine, offices, work.made)))
     finally:
         # a password that was made is shown, whatever ended the pass
         work.print_passwords()
@@ -210,10 +225,12 @@ def remove(machine: Machine, name: str, out: Print) -> None:
         rest = declared.all_in(machine.at(OFFICES))
         if rest:
             work = Pass(machine, out, makes=True)
-            go_over_site(work, rest)
+            go_over_site(work, rest, [list(sign_in.things(machine, rest, work.show))])
             go_over_rules(work, rest)
         else:
             off(machine, out)
+            work = Pass(machine, out, makes=True)
+            work.over(list(sign_in.ending(machine, rest, work.made)))
     except Refused:
         removed.rename(office.file)
         raise

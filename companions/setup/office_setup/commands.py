@@ -6,7 +6,8 @@ from pathlib import Path
 
 from office_common import command, files
 from office_common.errors import USAGE, WRONG, Refused
-from office_setup import applying, declared, doctor, first_file, keys, ports
+from office_setup import (
+    applying, closing, declared, doctor, first_file, keys, measures, ports, sign_in, sign_in_secrets, signing)
 from office_setup.machine import OFFICES, Machine
 from office_setup.office_things import ALL, LIB, file_of
 
@@ -28,7 +29,9 @@ def new(options: argparse.Namespace, machine: Machine) -> int:
         raise Refused(USAGE, f"'{options.name}' is no name of an office: it has {declared.NAME_RULE}")
     if file.exists():
         raise Refused(USAGE, f"{file} is there already")
-    first_file.write(machine, options.name, options.site, options.zone)
+    first_file.write(machine, options.name, options.site, options.zone, options.sign_in)
+    if options.sign_in is not None:
+        out(f"{first_file.secret_file(machine, options.sign_in)}: write the secret of the {options.sign_in} into it")
     out(f"{file}: look through it, then run `{NAME} apply`")
     return 0
 
@@ -81,17 +84,25 @@ def list_offices(options: argparse.Namespace, machine: Machine) -> int:
 def examine(options: argparse.Namespace, machine: Machine) -> int:
     """ask each office as its clients do, and look at copies, certificate, clock and journals"""
     offices = applying.chosen(applying.offices_of(machine), options.name)
+    looks = doctor.looks(machine, offices, options.port)
+    if options.prometheus is not None:
+        text = measures.text_of(machine, offices, list(looks))
+        files.write(options.prometheus, text.encode(), 0o644, (0, 0))
+        return 0
     wrong = 0
-    for finding in doctor.findings(machine, offices, options.port):
-        out(f"{'well ' if finding.is_well else 'WRONG'} {finding.text}")
-        wrong += not finding.is_well
+    for look in looks:
+        out(f"{'well ' if look.finding.is_well else 'WRONG'} {look.text()}")
+        wrong += not look.finding.is_well
     return WRONG if wrong else 0
 
 
 def password(options: argparse.Namespace, machine: Machine) -> int:
     """give a person another password, and show it"""
-    offices = applying.chosen(applying.offices_of(machine), options.name)
+    every = applying.offices_of(machine)
+    offices = applying.chosen(every, options.name)
     is_monitor = options.person == keys.MONITOR
+    if not is_monitor and offices[0].signing is not None:
+        return secret(machine, every, offices[0], options.person)
     if not is_monitor and keys.are_all_named(offices) and options.person not in keys.people_in(offices):
         raise offices[0].refuse("people", f"there is no {options.person}")
     path = keys.MONITOR_PASSWORDS if is_monitor else keys.PASSWORDS
@@ -100,9 +111,40 @@ def password(options: argparse.Namespace, machine: Machine) -> int:
     return 0
 
 
+def secret(machine: Machine, every: list[declared.Office], office: declared.Office, name: str) -> int:
+    """Gives a local name or a program of sign-in another secret, and shows it."""
+    is_program = name in sign_in_secrets.programs([office])
+    if not is_program and name not in sign_in_secrets.local_names([office]):
+        raise office.refuse(signing.TABLE, f"there is no local name and no program {name}")
+    sign_in.check(machine, every)
+    shown = sign_in_secrets.give(machine, name, is_program)
+    out(f"a new {'token' if is_program else 'password'}, shown this once: {name} {shown}")
+    work = applying.Pass(machine, out, makes=True)
+    work.over(sign_in.things(machine, every, work.show))
+    work.run_then()
+    return 0
+
+
+def close(options: argparse.Namespace, machine: Machine) -> int:
+    """stop an office for a while; whoever asks gets at once up to when"""
+    office = applying.chosen(applying.offices_of(machine), options.name)[0]
+    moment = closing.close(machine, office, options.until)
+    out(f"{office.name} is closed until {moment:%Y-%m-%d %H:%M}: `{NAME} open {office.name}` opens it before")
+    return 0
+
+
+def reopen(options: argparse.Namespace, machine: Machine) -> int:
+    """start an office that was closed"""
+    office = applying.chosen(applying.offices_of(machine), options.name)[0]
+    closing.reopen(machine, office)
+    out(f"{office.name} is open")
+    return 0
+
+
 COMMANDS: tuple[tuple[str, Work, str], ...] = (
     ("new", new, ONE), ("check", check, SOME), ("apply", apply, SOME), ("remove", remove, ONE),
-    ("list", list_offices, NONE), ("doctor", examine, SOME), ("password", password, ONE), ("off", off, NONE))
+    ("list", list_offices, NONE), ("doctor", examine, SOME), ("password", password, ONE), ("close", close, ONE),
+    ("open", reopen, ONE), ("off", off, NONE))
 
 
 def parser() -> argparse.ArgumentParser:
@@ -120,11 +162,15 @@ def parser() -> argparse.ArgumentParser:
             by_name[name].add_argument("name", metavar="NAME", nargs=SOME)
     by_name["new"].add_argument("--site", help="the name of this machine in a browser")
     by_name["new"].add_argument("--zone", help="the time zone of the office")
+    by_name["new"].add_argument("--sign-in", choices=tuple(signing.WAYS), help="who knows the people: without it passwords")
     by_name["apply"].add_argument("--after-upgrade", action="store_true",
                                   help="copy each office first, and restart no service")
     by_name["doctor"].add_argument("--port", type=command.number(1, 65_535), default=doctor.HTTPS,
                                    help="the port of HTTPS")
+    by_name["doctor"].add_argument("--prometheus", type=Path, metavar="FILE",
+                                   help="write what it finds for node-exporter's textfile collector, and print nothing")
     by_name["password"].add_argument("person", metavar="PERSON")
+    by_name["close"].add_argument("--until", required=True, metavar="TIME", help="as 14:00, or '2026-12-31 14:00'")
     return top
 
 

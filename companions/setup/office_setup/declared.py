@@ -7,20 +7,16 @@ from office_common import toml_table
 from office_common.errors import USAGE, Refused
 from office_common.facts import LIMITS
 from office_common.toml_table import Table
+from office_setup.people import LINE, WORD, Person, people_of
+from office_setup.signing import TABLE, Signing, signing_of
 
 NAME = re.compile("[a-z0-9][a-z0-9-]{0,31}")
 NAME_RULE = "small letters, digits and hyphens, 32 at most, as city"
 HOST = re.compile(r"[A-Za-z0-9]([A-Za-z0-9.-]{0,251}[A-Za-z0-9])?")
-PERSON = re.compile(r"\*|[^\s:#*\"\\\x00-\x1f\x7f]{1,64}")
-LINE = re.compile(r"[^\x00-\x1f\x7f#\s][^\x00-\x1f\x7f#]*")
-WORD = re.compile(r"[^\s#\x00-\x1f\x7f]+")
 PATH = re.compile(r"/[A-Za-z0-9._/@+-]+")
 MAIL = re.compile(r"[A-Za-z0-9._%+=-]+@[A-Za-z0-9.-]+")
 COLOUR = re.compile("#[0-9A-Fa-f]{6}")
 DISK = re.compile("any|powersafe")
-SIGN_IN = re.compile("password|directory")
-OWN_NAMES = ("monitor", "yearend")
-"""names of services, which get their lines by themselves"""
 MOST_DAYS, MOST_BYTES = 36_500, 1 << 50
 
 NUMBERS: tuple[tuple[str, str, str, int, int, int | None], ...] = (
@@ -42,32 +38,13 @@ LIMIT_STATEMENTS = {"requests": "limit requests", "lists": "limit lists", "journ
 
 
 @dataclass(frozen=True)
-class Grant:
-    """Roles of a person, in these classes or, without any, everywhere."""
-
-    roles: tuple[str, ...]
-    classes: tuple[str, ...]
-
-
-@dataclass(frozen=True)
-class Person:
-    """A name that signs in, its roles, and the text that it signs with."""
-
-    name: str
-    grants: tuple[Grant, ...]
-    signs: str | None
-
-
-@dataclass(frozen=True)
 class Tls:
-    """The site of the machine, its certificate and key if there are some, whether it answers other names, and whether
-    people sign in by a directory."""
+    """The site of the machine, its certificate and key if there are some, and whether it answers other names."""
 
     site: str
     certificate: str | None
     key: str | None
     is_default_server: bool
-    has_directory: bool = False
 
 
 @dataclass(frozen=True)
@@ -82,6 +59,7 @@ class Office:
     colour: str
     conf: tuple[tuple[str, str], ...]
     people: tuple[Person, ...] | None
+    signing: Signing | None
     rules: tuple[tuple[str, str | None], ...]
     limits: tuple[tuple[str, str], ...]
     settings: tuple[str, ...]
@@ -91,6 +69,16 @@ class Office:
     copies_go_elsewhere: bool
     morning: tuple[str, ...]
     failed: tuple[str, ...]
+
+    @property
+    def has_own_settings(self) -> bool:
+        """Whether the city writes the settings of the gate by itself."""
+        return self.people is None and self.signing is None
+
+    def named(self) -> dict[str, Person]:
+        """Returns the names that have a line in the settings of the gate, by the keys of the file."""
+        people = {f"people.{person.name}": person for person in self.people or ()}
+        return people | (self.signing.named() if self.signing else {})
 
     def refuse(self, key: str, text: str) -> Refused:
         """Returns the end of the command over a key of the file."""
@@ -104,46 +92,7 @@ def tls_of(table: Table) -> Tls:
     if (certificate is None) != (key is None):
         missing = "key" if key is None else "certificate"
         table.refuse(missing, "it is missing: a certificate and its key belong together")
-    way = table.text("sign-in", SIGN_IN, "password or directory")
-    return Tls(site, certificate, key, table.flag("default-server", True), way == "directory")
-
-
-def grant_of(table: Table) -> Grant:
-    roles = table.texts("is", WORD, "a role, or a list of roles")
-    if not roles:
-        table.refuse("is", "it is missing: write a role, or a list of roles")
-    return Grant(roles, table.texts("in", WORD, "the code of a class, or a list of codes"))
-
-
-def person_of(people: Table, name: str) -> Person:
-    """Reads a person: a role, a list of roles, or tables with `is`, `in` and `signs`."""
-    value = people.value(name)
-    if not PERSON.fullmatch(name):
-        people.refuse(name, "a name has no space, colon, quote or #")
-    if name in OWN_NAMES:
-        people.refuse(name, "this name belongs to a service, which gets it without a line")
-    if isinstance(value, str) or isinstance(value, list) and not any(isinstance(entry, dict) for entry in value):
-        table = Table(people.file, {"is": value}, f"{people.prefix}{name}.")
-        return Person(name, (grant_of(table),), None)
-    grants: list[Grant] = []
-    signs: list[str] = []
-    for entry in value if isinstance(value, list) else [value]:
-        if not isinstance(entry, dict):
-            people.refuse(name, f"{toml_table.shown(entry)} is no role, no list of roles, and no table with is, in, "
-                          "signs")
-        table = Table(people.file, entry, f"{people.prefix}{name}.")
-        grants.append(grant_of(table))
-        text = table.text("signs", LINE, "the text that certificates have for this name")
-        signs += [] if text is None else [text]
-        table.end()
-    if len(signs) > 1:
-        people.refuse(name, "it signs with one text")
-    return Person(name, tuple(grants), signs[0] if signs else None)
-
-
-def people_of(table: Table) -> tuple[Person, ...] | None:
-    people = table.table("people")
-    return None if people is None else tuple(person_of(people, name) for name in people.values)
+    return Tls(site, certificate, key, table.flag("default-server", True))
 
 
 def rule_of(rules: Table, name: str) -> str | None:
@@ -198,21 +147,21 @@ def office_of(name: str, table: Table) -> Office:
     service = table.table("service") or Table(table.file, {}, "service.")
     backup = table.table("backup") or Table(table.file, {}, "backup.")
     morning, failed = addresses_of(table)
+    tls, zone = tls_of(table), table.needed("zone", LINE, "a time zone, as Europe/Berlin")
     office = Office(
-        name, table.file, tls_of(table), table.needed("zone", LINE, "a time zone, as Europe/Berlin"),
-        table.text("title", LINE, "a text of one line"),
+        name, table.file, tls, zone, table.text("title", LINE, "a text of one line"),
         table.text("colour", COLOUR, "a colour of six digits, as #1f4d7a") or "#1f4d7a",
-        conf_of(service, backup), people_of(table), rules_of(table), limits_of(table),
+        conf_of(service, backup), people_of(table), signing_of(table, zone), rules_of(table), limits_of(table),
         table.texts("settings", LINE, "a line of the gate's settings"), table.flag("vault", True),
         table.flag("seals", True), table.flag("yearend", False), backup.flag("elsewhere", False), morning, failed)
     for part in (service, backup, table):
         part.end()
-    if office.people is None and (office.rules or office.limits or office.settings):
+    if office.has_own_settings and (office.rules or office.limits or office.settings):
         raise office.refuse("people", "it is missing: without it the office has settings of its own, which rules, "
                             "limits and settings do not change")
-    if office.people is not None and office.tls.has_directory:
-        raise office.refuse("people", "the directory has the people, and /etc/office-sign-in the roles of their groups: "
-                            "leave [people] out")
+    if office.people is not None and office.signing is not None:
+        raise office.refuse("people", f"people sign in by [{TABLE}], which gives roles to groups and to names of this "
+                            "machine: leave [people] out")
     return office
 
 
@@ -229,7 +178,7 @@ def all_in(folder: Path) -> list[Office]:
 
 
 def together(offices: list[Office]) -> list[Office]:
-    """Checks that the offices of a machine agree on its site, and returns them."""
+    """Checks that the offices of a machine agree on its site and on how people sign in, and returns them."""
     for office in offices[1:]:
         first = offices[0]
         for key in ("site", "certificate", "key"):
@@ -237,9 +186,21 @@ def together(offices: list[Office]) -> list[Office]:
             if own != other:
                 raise office.refuse(key, f"{own or 'nothing'} is not what {first.file} has, {other or 'nothing'}: the "
                                     "offices of a machine have one site")
-        if office.tls.has_directory != first.tls.has_directory:
-            raise office.refuse("sign-in", f"it is not what {first.file} has: the offices of a machine have one site")
         if office.tls.is_default_server != first.tls.is_default_server:
             raise office.refuse("default-server", f"it is not what {first.file} has: the offices of a machine have "
                                 "one site")
+        check_signing(office, first)
     return offices
+
+
+def check_signing(office: Office, first: Office) -> None:
+    """Refuses two ways to sign in at one site."""
+    if office.signing is None or first.signing is None:
+        if office.signing is not first.signing:
+            raise office.refuse(TABLE, f"{first.file} has {'no' if first.signing is None else 'such a'} table: the "
+                                "offices of a machine have one site")
+        return
+    for key in {**first.signing.shared, **office.signing.shared}:
+        if office.signing.shared.get(key) != first.signing.shared.get(key):
+            raise office.refuse(f"{TABLE}.{key}", f"it is not what {first.file} has: the offices of a machine have one "
+                                "sign-in")

@@ -1,18 +1,21 @@
 """Health checks: HTTPS as clients use it, copies, the certificate, the clock, journals and seals."""
 import datetime
 import http.client
+import os
 import re
+import shutil
 import socket
 import ssl
+import tempfile
 import time
-from collections.abc import Callable, Iterator
+from collections.abc import Iterator
 from pathlib import Path
 from typing import NamedTuple
 
-from office_common.client import Client
+from office_common.client import Client, Reply
 from office_common.errors import Away, NoAnswer
 from office_common.files import copies_in
-from office_setup import append_only, keys, ports
+from office_setup import append_only, keys, ports, sign_in
 from office_setup.declared import Office
 from office_setup.machine import Machine
 from office_setup.office_things import JOURNALS, LIB, file_of
@@ -22,6 +25,9 @@ SECONDS = 20
 COPY_HOURS = 26
 CERTIFICATE_DAYS = 30
 SEAL_HOURS = 24
+BLOCK = 65_536
+ROOM = 3
+"""so many times FILE should be free on its disk"""
 NUMBER = re.compile(r"certificate-(\d+)\.txt")
 
 
@@ -30,6 +36,17 @@ class Finding(NamedTuple):
 
     is_well: bool
     text: str
+
+
+class Look(NamedTuple):
+    """A check with what it found, about an office or, without one, about the machine."""
+
+    check: str
+    office: str
+    finding: Finding
+
+    def text(self) -> str:
+        return f"{self.office}: {self.finding.text}" if self.office else self.finding.text
 
 
 class Here(http.client.HTTPSConnection):
@@ -45,10 +62,10 @@ class Here(http.client.HTTPSConnection):
 
 
 class Site(Client):
-    """A client of an office behind nginx, which trusts the certificate that nginx has."""
+    """A client of the site behind nginx, which trusts the certificate that nginx has."""
 
-    def __init__(self, office: Office, certificate: Path, port: int) -> None:
-        super().__init__(f"https://{office.tls.site}/{office.name}", SECONDS)
+    def __init__(self, site: str, certificate: Path, port: int) -> None:
+        super().__init__(f"https://{site}", SECONDS)
         self.context = ssl.create_default_context()
         self.context.load_verify_locations(certificate)
         self.https = port
@@ -62,13 +79,18 @@ class Site(Client):
         return link
 
 
+def asked(machine: Machine, office: Office, port: int, path: str) -> Reply:
+    """Asks the site of an office for a path, as nobody."""
+    return Site(office.tls.site, machine.at(keys.CERTIFICATE), port).ask("GET", path)
+
+
 # ---- the office
 
 
 def https(machine: Machine, office: Office, port: int) -> Finding:
     """Requests a record without a password, which must be refused."""
     try:
-        status = Site(office, machine.at(keys.CERTIFICATE), port).ask("GET", "/records/1").status
+        status = asked(machine, office, port, f"/{office.name}/records/1").status
     except (NoAnswer, OSError) as error:
         return Finding(False, f"HTTPS does not answer: {error}")
     return Finding(status == 401, f"HTTPS answers {status} to a request without a name")
@@ -86,6 +108,12 @@ def closed_port(machine: Machine, office: Office) -> Finding:
     return Finding(False, f"root reaches the port {port}: the rules of nftables are not loaded")
 
 
+def age_of(copy: Path) -> float:
+    """Returns the seconds since the moment in the name of a copy."""
+    moment = datetime.datetime.strptime(copy.name[:16], "%Y%m%dT%H%M%SZ").replace(tzinfo=datetime.timezone.utc)
+    return (datetime.datetime.now(datetime.timezone.utc) - moment).total_seconds()
+
+
 def copies(machine: Machine, office: Office) -> Iterator[Finding]:
     """Checks the age of the newest copy, and whether it is on another disk than FILE."""
     folder = machine.at(f"{LIB}/office-backups/{office.name}")
@@ -93,8 +121,7 @@ def copies(machine: Machine, office: Office) -> Iterator[Finding]:
     if not newest:
         yield Finding(False, "there is no copy")
         return
-    moment = datetime.datetime.strptime(newest[0].name[:16], "%Y%m%dT%H%M%SZ").replace(tzinfo=datetime.timezone.utc)
-    hours = (datetime.datetime.now(datetime.timezone.utc) - moment).total_seconds() / 3600
+    hours = age_of(newest[0]) / 3600
     yield Finding(0 <= hours < COPY_HOURS, f"the newest copy is {hours:.0f} hours old")
     file = machine.at(file_of(office))
     is_apart = file.is_file() and file.stat().st_dev != newest[0].stat().st_dev
@@ -104,21 +131,43 @@ def copies(machine: Machine, office: Office) -> Iterator[Finding]:
                       "(`elsewhere = true` under [backup] says that this is done)")
 
 
-def journals(machine: Machine, office: Office) -> Finding:
-    """Checks that nobody can rewrite the journal."""
-    files = sorted(machine.at(JOURNALS).glob(f"{office.name}.journal*"))
-    logs = [file for file in files if re.fullmatch(r".*\.journal(-\d+)?", file.name)]
+def appended(machine: Machine, folder: str, name: str) -> Finding:
+    """Checks that nobody can rewrite a journal."""
+    logs = [file for file in sorted(machine.at(folder).glob(f"{name}*")) if re.fullmatch(rf"{name}(-\d+)?", file.name)]
     rewritable = [file.name for file in logs if not append_only.is_set(file)]
     if not logs or rewritable:
         return Finding(False, f"the journal can be rewritten: {', '.join(rewritable) or 'it is not there'}")
     return Finding(True, "nobody rewrites the journal")
 
 
-def head(machine: Machine, office: Office) -> Finding:
-    """Has office-journal check the chain of the journal."""
-    done = machine.run("office-journal", "check", machine.at(f"{JOURNALS}/{office.name}.journal"))
+def chained(machine: Machine, file: str) -> Finding:
+    """Has office-journal check the chain of a journal."""
+    done = machine.run("office-journal", "check", machine.at(file))
     last = done.text.splitlines()[-1:] or [""]
     return Finding(done.status == 0, f"the journal: {last[0]}")
+
+
+def room(machine: Machine, office: Office) -> Finding:
+    """Writes a block beside FILE, and compares the free room with FILE, which a compaction and a backup write anew."""
+    file = machine.at(file_of(office))
+    try:
+        with tempfile.TemporaryFile(dir=file.parent) as probe:
+            probe.write(bytes(BLOCK))
+            probe.flush()
+            os.fsync(probe.fileno())
+        free, size = shutil.disk_usage(file.parent).free, file.stat().st_size
+    except OSError as error:
+        return Finding(False, f"FILE cannot be written: {error}")
+    return Finding(free >= ROOM * size, f"{free >> 20} MB are free for a FILE of {size >> 20} MB" + (
+        "" if free >= ROOM * size else f": {ROOM} times as much should be"))
+
+
+def journals(machine: Machine, office: Office) -> Finding:
+    return appended(machine, JOURNALS, f"{office.name}.journal")
+
+
+def head(machine: Machine, office: Office) -> Finding:
+    return chained(machine, f"{JOURNALS}/{office.name}.journal")
 
 
 def numbers_in(folder: Path, pattern: str, hours: float = 0) -> set[int]:
@@ -128,22 +177,62 @@ def numbers_in(folder: Path, pattern: str, hours: float = 0) -> set[int]:
     return {int(match[1]) for name in names if (match := NUMBER.fullmatch(name))}
 
 
-def seals(machine: Machine, office: Office) -> Finding:
-    """Looks for certificates that should have a seal by now and have none."""
+def unsealed(machine: Machine, office: Office) -> list[int]:
+    """Returns the certificates that should have a seal by now and have none."""
     certificates = numbers_in(machine.at(f"{LIB}/office-certificates/{office.name}"), "certificate-*.txt", SEAL_HOURS)
-    sealed = numbers_in(machine.at(f"{LIB}/office-seals/{office.name}"), "*/certificate-*.txt")
-    missing = sorted(certificates - sealed)
+    return sorted(certificates - numbers_in(machine.at(f"{LIB}/office-seals/{office.name}"), "*/certificate-*.txt"))
+
+
+def seals(machine: Machine, office: Office) -> Finding:
+    missing = unsealed(machine, office)
     return Finding(not missing, f"certificates without a seal: {', '.join(map(str, missing))}" if missing else
                    "each certificate of yesterday and before has a seal")
 
 
-def failed_units(machine: Machine, office: Office) -> Finding:
-    """Looks for failed units of the office."""
-    done = machine.run("systemctl", "list-units", "--failed", "--no-legend", "--plain", f"office*@{office.name}.*")
+def failed_units(machine: Machine, pattern: str) -> Finding:
+    """Looks for failed units whose names have a pattern."""
+    done = machine.run("systemctl", "list-units", "--failed", "--no-legend", "--plain", pattern)
     names = [line.split()[0] for line in done.text.splitlines() if line.strip()]
     if done.status or names:
         return Finding(False, f"failed: {', '.join(names) or done.text}")
     return Finding(True, "no unit has failed")
+
+
+def failed_of_office(machine: Machine, office: Office) -> Finding:
+    return failed_units(machine, f"office*@{office.name}.*")
+
+
+# ---- sign-in
+
+
+def form(machine: Machine, office: Office, port: int) -> Finding:
+    """Requests the form of sign-in."""
+    try:
+        status = asked(machine, office, port, "/sign-in").status
+    except (NoAnswer, OSError) as error:
+        return Finding(False, f"the form does not answer: {error}")
+    return Finding(status == 200, f"the form answers {status}")
+
+
+def known_people(machine: Machine) -> Iterator[Finding]:
+    """Has office-sign-in ask the directory or the provider with its own rights, and look at the tokens of programs."""
+    done = machine.run_as("office-sign-in", "office-sign-in", "check", "--ask", "--settings", machine.at(sign_in.SETTINGS))
+    lines = done.text.splitlines() or [""]
+    yield Finding(done.status == 0, lines[0] if done.status == 0 else f"nobody signs in: {lines[-1]}")
+    for line in lines[1:] if done.status == 0 else []:
+        yield Finding(False, line)
+
+
+def signing(machine: Machine, offices: list[Office], port: int) -> Iterator[tuple[str, Finding]]:
+    """Runs the checks of sign-in, if there is one."""
+    if offices[0].signing is None:
+        return
+    yield "form", form(machine, offices[0], port)
+    for number, finding in enumerate(known_people(machine)):
+        yield "token" if number else "people", finding
+    yield "append", appended(machine, sign_in.LOGS, sign_in.JOURNAL)
+    yield "journal", chained(machine, f"{sign_in.LOGS}/{sign_in.JOURNAL}")
+    yield "units", failed_units(machine, "office-sign-in*")
 
 
 # ---- the machine
@@ -164,13 +253,25 @@ def clock(machine: Machine) -> Finding:
                    "systemd-timesyncd")
 
 
-def findings(machine: Machine, offices: list[Office], port: int) -> Iterator[Finding]:
+def of_office(machine: Machine, office: Office, port: int) -> Iterator[tuple[str, Finding]]:
+    """Runs all checks of an office, each with its name."""
+    yield "https", https(machine, office, port)
+    yield "port", closed_port(machine, office)
+    yield "append", journals(machine, office)
+    yield "journal", head(machine, office)
+    yield "units", failed_of_office(machine, office)
+    yield "room", room(machine, office)
+    for name, finding in zip(("copy", "apart"), copies(machine, office), strict=False):
+        yield name, finding
+    if office.has_seals:
+        yield "seals", seals(machine, office)
+
+
+def looks(machine: Machine, offices: list[Office], port: int) -> Iterator[Look]:
     """Runs all checks of these offices, and those of the machine."""
     for office in offices:
-        of_office: list[Callable[[Machine, Office], Finding]] = [closed_port, journals, head, failed_units]
-        looks = [https(machine, office, port), *(look(machine, office) for look in of_office), *copies(machine, office)]
-        looks += [seals(machine, office)] if office.has_seals else []
-        for finding in looks:
-            yield Finding(finding.is_well, f"{office.name}: {finding.text}")
-    yield certificate(machine)
-    yield clock(machine)
+        yield from (Look(name, office.name, finding) for name, finding in of_office(machine, office, port))
+    yield from (Look(f"sign-in-{name}", "", Finding(finding.is_well, f"sign-in: {finding.text}"))
+                for name, finding in signing(machine, offices, port))
+    yield Look("certificate", "", certificate(machine))
+    yield Look("clock", "", clock(machine))

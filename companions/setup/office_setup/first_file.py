@@ -5,8 +5,10 @@ from pathlib import Path
 
 from office_common import files
 from office_common.toml_table import Table
-from office_setup import declared
-from office_setup.machine import OFFICES, Machine
+from office_setup import declared, toml_text
+from office_setup.declared import Office
+from office_setup.machine import OFFICES, Machine, Owner
+from office_setup.signing import SECRETS, TABLE
 from office_setup.things import make_parents
 
 PEOPLE = """
@@ -19,6 +21,47 @@ deputy = { is = "records-manager", signs = "Deputy records manager" }
 legal = "legal"
 auditor = "auditor"
 #builder = { is = "department", in = ["BLDG*"] }
+"""
+SIGN_IN = """
+# How people sign in, and what each may do (docs/SIGNIN.md). The offices of a machine have the same, but for groups, local
+# names and programs.
+[sign_in]
+#day-ends = "20:00"
+#hours = 10
+# who learns that a local name was used
+#mail = "admin@{site}"
+
+{way}
+# what a group is at the gate (docs/ACCESS.md); `in` limits a role to classes
+[sign_in.groups]
+"Records Registry" = "registry"
+"Records Managers" = "records-manager"
+"Legal Department" = "legal"
+#"Building Department" = {{ is = "department", in = ["BLDG*"] }}
+
+# Names of this machine, for the day on which the directory is away, and programs, each with the last day of its token.
+#[sign_in.local]
+#keeper = "registry"
+#[sign_in.programs]
+#intake = {{ is = "registry", ends = 2027-12-31 }}
+"""
+WAYS = {"directory": """# the password of the reader is in /etc/office-sign-in/reader
+[sign_in.directory]
+url = "ldaps://directory.city.example"
+reader = "cn=office,ou=services,dc=city,dc=example"
+people = "ou=people,dc=city,dc=example"
+groups = "ou=groups,dc=city,dc=example"
+""", "provider": """# the secret of this client is in /etc/office-sign-in/client
+[sign_in.provider]
+issuer = "https://login.city.example/"
+client = "office"
+"""}
+"""the tables of a directory and of a provider"""
+OTHERS_SIGN_IN = """
+# How people sign in, as at the other offices of this machine, and what each may do here (docs/SIGNIN.md).
+{shared}
+[sign_in.groups]
+#"Records Managers" = "records-manager"
 """
 OWN_SETTINGS = """
 # Who signs in, and what each may do, is in /etc/office/{name}.access, which was there before and stays as it is. With a
@@ -85,13 +128,34 @@ def escaped(text: str) -> str:
     return text.replace("\\", "\\\\").replace('"', '\\"')
 
 
-def write(machine: Machine, name: str, site: str | None, zone: str | None) -> Path:
+def people_part(machine: Machine, name: str, site: str, way: str | None, others: list[Office]) -> str:
+    """Returns who signs in: by the way that is given or the one of the other offices, by passwords, or as before."""
+    if way is not None:
+        return SIGN_IN.format(site=escaped(site), way=WAYS[way])
+    signing = others[0].signing if others else None
+    if signing is not None:
+        return OTHERS_SIGN_IN.format(shared=toml_text.text_of({TABLE: signing.shared}, depth=2).lstrip())
+    return OWN_SETTINGS.format(name=name) if machine.at(f"{OFFICES}/{name}.access").exists() else PEOPLE
+
+
+def secret_file(machine: Machine, way: str) -> str:
+    """Makes the empty file of a secret, if there is none, and returns its path."""
+    path = SECRETS[way]
+    if not machine.at(path).exists():
+        folder = str(Path(path).parent)
+        make_parents(machine, path)
+        machine.own(folder, Owner("root", "office-sign-in", 0o750))
+        files.write(machine.at(path), b"", 0o640, machine.ids(Owner("root", "office-sign-in", 0o640)))
+    return path
+
+
+def write(machine: Machine, name: str, site: str | None, zone: str | None, way: str | None) -> Path:
     """Writes the first file of an office, by default with the site and the zone of the machine's other offices."""
     others = declared.all_in(machine.at(OFFICES))
     site = site or (others[0].tls.site if others else socket.getfqdn())
-    people = OWN_SETTINGS.format(name=name) if machine.at(f"{OFFICES}/{name}.access").exists() else PEOPLE
     text = TEXT.format(name=name, site=escaped(site),
-                       zone=escaped(zone or (others[0].zone if others else own_zone(machine))), people=people)
+                       zone=escaped(zone or (others[0].zone if others else own_zone(machine))),
+                       people=people_part(machine, name, site, way, others))
     path = f"{OFFICES}/{name}.toml"
     # what the arguments have to be is what the file has to have
     declared.together([*others, declared.office_of(name, Table(machine.at(path), tomllib.loads(text)))])

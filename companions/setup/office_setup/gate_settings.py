@@ -5,8 +5,9 @@ from pathlib import Path
 from typing import NamedTuple
 
 from office_common.errors import USAGE, Refused
-from office_setup.declared import LIMIT_STATEMENTS, Office, Person
+from office_setup.declared import LIMIT_STATEMENTS, Office
 from office_setup.machine import Machine
+from office_setup.people import Person
 from office_setup.texts import made_by
 
 SHIPPED = "gate/city.access"
@@ -26,8 +27,8 @@ def shipped_statements(machine: Machine) -> list[list[str]]:
     return [parts for parts in lines if parts]
 
 
-def people_statements(person: Person) -> list[Statement]:
-    key = f"people.{person.name}"
+def people_statements(key: str, person: Person) -> list[Statement]:
+    """Returns the statements about a name, which the office's file has at a key."""
     lines = []
     for grant in person.grants:
         limit = f" in {' '.join(grant.classes)}" if grant.classes else ""
@@ -64,7 +65,7 @@ def statements(office: Office, machine: Machine) -> list[Statement]:
     lines = [Statement("begin", SHIPPED)]
     lines += [Statement(f"site https://{office.tls.site}", "site"), Statement(f"zone {office.zone}", "zone")]
     lines += [Statement(" ".join(parts), SHIPPED) for parts in shipped if parts[0] == "role"]
-    lines += [line for person in office.people or () for line in people_statements(person)]
+    lines += [line for key, person in office.named().items() for line in people_statements(key, person)]
     lines.append(Statement("name monitor is monitor", "people"))
     if office.has_yearend:
         lines.append(Statement("name yearend is yearend", "yearend"))

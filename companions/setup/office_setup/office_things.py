@@ -162,7 +162,9 @@ def things_of(machine: Machine, office: Office, offices: Sequence[Office]) -> It
     yield first_file(machine, office)
     yield Folder(machine, f"{LIB}/office-catalogues")
     yield Folder(machine, f"{LIB}/office-catalogues/{name}", Owner("office", "www-data", 0o2750))
-    yield settings(machine, office)
+    # office-sign-in makes those of an office with [sign_in]
+    if office.signing is None:
+        yield settings(machine, office)
     yield keys.token(machine, office)
     yield Folder(machine, JOURNALS)
     yield from journals(machine, office)

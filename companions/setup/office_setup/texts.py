@@ -48,8 +48,7 @@ def vaults(offices: Sequence[Office]) -> str:
 
 def sign_in_site(offices: Sequence[Office]) -> str:
     """Returns the line of nginx for the site, if people sign in there by a directory."""
-    tls = offices[0].tls
-    return of_all() + (f"{tls.site} 1;\n" if tls.has_directory else "")
+    return of_all() + (f"{offices[0].tls.site} 1;\n" if offices[0].signing else "")
 
 
 def tokens(machine: Machine, offices: Sequence[Office]) -> str:
@@ -73,7 +72,7 @@ def cut(text: str, mark: str) -> tuple[str, str]:
 def site(machine: Machine, offices: Sequence[Office]) -> str:
     """Returns the site of nginx: the shipped one, with a part for each office."""
     tls = offices[0].tls
-    head, rest = cut(machine.shipped(SIGNED_SITE if tls.has_directory else SITE), PART_BEGINS)
+    head, rest = cut(machine.shipped(SIGNED_SITE if offices[0].signing else SITE), PART_BEGINS)
     part, tail = cut(rest, PART_ENDS)
     head = head.replace("server_name localhost;", f"server_name {tls.site};")
     if not tls.is_default_server:

@@ -14,10 +14,13 @@ Command = tuple[str, ...]
 
 class Thing:
     """A part of an office or of the machine. `path` is the file that it changes, `then` are the commands to run after a
-    change, and `is_of_nginx` is set if nginx reads the file. An upgrade leaves a thing with `waits` to a person."""
+    change, and `is_of_nginx` is set if nginx reads the file. If nginx refuses its files, `restores` are put back too, and
+    the commands `back` run. An upgrade leaves a thing with `waits` to a person."""
 
     path: str | None = None
     then: tuple[Command, ...] = ()
+    restores: tuple[str, ...] = ()
+    back: tuple[Command, ...] = ()
     is_of_nginx = False
     waits = False
 

@@ -8,10 +8,11 @@ from collections.abc import Callable
 from pathlib import Path
 
 from office_common import command
-from office_common.errors import USAGE, Refused
+from office_common.errors import IMPOSSIBLE, USAGE, WRONG, Refused
 
 from office_signin import gate_settings, local_names, mailing, settings
 from office_signin.gate_settings import Places as GatePlaces
+from office_signin.settings import Settings
 
 SETTINGS = Path("/etc/office-sign-in/settings.toml")
 GATES, OWN = Path("/etc/office"), Path("/etc/office-sign-in")
@@ -41,13 +42,33 @@ def check(args: argparse.Namespace) -> int:
     for program in found.programs.values():
         if program.ends < today:
             print(f"the token of {program.name} ended on {program.ends}")
+    if args.ask:
+        ask(found)
     return 0
+
+
+def ask(found: Settings) -> None:
+    """Asks the directory about nobody, as its reader, or the provider what it states of itself."""
+    from office_signin.directory import Away, Ldap
+    from office_signin.provider import Provided
+    from office_signin.statements import Untrue
+    try:
+        if found.directory:
+            Ldap(found.directory).again("-", "-")
+        elif found.provider:
+            Provided(found.provider, found.site).discovered()
+    except (Away, Untrue) as error:
+        raise Refused(IMPOSSIBLE, str(error)) from error
 
 
 def gates(args: argparse.Namespace) -> int:
     """give the gates the people who signed in, as root"""
-    places = GatePlaces(args.gates, args.own, tuple(args.check.split()), tuple(args.reload.split()))
-    gate_settings.give_all(settings.read(args.settings), args.people, places, args.given)
+    places, found = GatePlaces(args.gates, args.own, tuple(args.check.split()), tuple(args.reload.split())), settings.read(args.settings)
+    if args.compare:
+        others = gate_settings.differing(found, args.people, places)
+        print("".join(f"the gate of {office} has other settings\n" for office in others), end="")
+        return WRONG if others else 0
+    gate_settings.give_all(found, args.people, places, args.given)
     return 0
 
 
@@ -96,10 +117,11 @@ def parser() -> argparse.ArgumentParser:
     kinds = whole.add_subparsers(required=True, metavar="COMMAND")
     own = ("settings", SETTINGS)
     add(kinds, serve, own, ("socket", None), ("journal", None), ("state", None), ("given", None))
-    add(kinds, check, own)
+    add(kinds, check, own).add_argument("--ask", action="store_true", help="ask the directory or the provider too")
     one = add(kinds, gates, own, ("people", None), ("given", None), ("gates", GATES), ("own", OWN))
     one.add_argument("--check", default="office-gate check")
     one.add_argument("--reload", default="systemctl try-reload-or-restart")
+    one.add_argument("--compare", action="store_true", help="print which gates lack it, and change nothing")
     one = add(kinds, mails, own, ("mails", None), ("to", None))
     one.add_argument("--user")
     one.add_argument("--sent", action="store_true")

@@ -149,11 +149,24 @@ def put(places: Places, office: str, text: str) -> None:
         raise Refused(IMPOSSIBLE, f"the gate of {office} does not read its settings: status {done.returncode}")
 
 
-def give_one(settings: Settings, office: str, data: bytes, places: Places) -> None:
-    """Gives the gate of an office the people of a table."""
+def text_for(settings: Settings, office: str, data: bytes, places: Places) -> str:
+    """Returns the settings of the gate of an office, with the people of a table."""
     own = own_of(settings, places, office)
     people = taken(own, people_in(settings, office, data), lambda text: is_taken(places.check, text))
-    put(places, office, with_people(own, people))
+    return with_people(own, people)
+
+
+def differing(settings: Settings, table: Path, places: Places) -> list[str]:
+    """Returns the offices whose gates have other settings than those with the people of a table."""
+    data = data_in(table)
+    files_of = {office: places.gates / f"{office}.access" for office in settings.roles}
+    return [office for office, file in files_of.items()
+            if not file.is_file() or file.read_bytes() != text_for(settings, office, data, places).encode()]
+
+
+def data_in(table: Path) -> bytes:
+    """Returns the bytes of a table, that of nobody if there is none yet."""
+    return table.read_bytes() if table.is_file() else b"{}"
 
 
 def give(settings: Settings, data: bytes, places: Places) -> None:
@@ -161,7 +174,7 @@ def give(settings: Settings, data: bytes, places: Places) -> None:
     wrong: list[Refused] = []
     for office in settings.roles:
         try:
-            give_one(settings, office, data, places)
+            put(places, office, text_for(settings, office, data, places))
         except Refused as refused:
             wrong.append(refused)
     if wrong:
@@ -171,7 +184,7 @@ def give(settings: Settings, data: bytes, places: Places) -> None:
 def give_all(settings: Settings, table: Path, places: Places, done: Path) -> None:
     """Gives the gates the table, again if it changed meanwhile, and notes which one they have."""
     last: bytes | None = None
-    while (data := table.read_bytes() if table.is_file() else b"{}") != last:
+    while (data := data_in(table)) != last:
         give(settings, data, places)
         files.write(done, hashlib.sha256(data).hexdigest().encode(), 0o644)
         last = data

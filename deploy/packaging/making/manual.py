@@ -1,7 +1,15 @@
-"""The manual pages: office(1) of README.md, and one of each script of its first comment."""
+"""The manual pages of commands: office(1) of README.md, and one of each script of its first comment and its own help."""
 import re
 
+from making import roff
+from making.helps import Command, Entry
+from making.roff import inline, plain
 from making.words import Word, notes, statuses, table
+
+FOR_PEOPLE = ("office-about", "office-awaiting", "office-check", "office-convert", "office-receipts", "office-since",
+              "office-todo", "office-transfer", "office-verify")
+"""commands of section 1, as office itself: whoever keeps records or audits runs them. The others are of section 8"""
+BOOKS = {1: "User Commands", 8: "System Administration"}
 
 FILES = [
     ("/etc/office/NAME.toml", "what the office NAME is, for office-setup"),
@@ -21,18 +29,9 @@ office apply archive.db acts.json
 office export archive.db 2025-01-01 > due.csv"""
 
 
-def plain(text: str) -> str:
-    """A text as roff has it."""
-    text = text.replace("\\", "\\e").replace("-", "\\-").replace("'", "\\(aq").replace("`", "\\(ga")
-    return "\\&" + text if text.startswith(".") else text
-
-
-def inline(text: str) -> str:
-    """Markdown's code as bold, links as their text."""
-    text = re.sub(r" ?\(\[[^]]+\]\([^)]+\)\)", "", text)
-    text = re.sub(r"\[([^]]+)\]\([^)]+\)", r"\1", text).replace("**", "")
-    pieces = text.split("`")
-    return "".join(f"\\fB{plain(it)}\\fP" if at % 2 else plain(it) for at, it in enumerate(pieces))
+def section_of(name: str) -> int:
+    """Returns the section of the manual that has a command."""
+    return 1 if name == "office" or name in FOR_PEOPLE else 8
 
 
 def call(text: str) -> str:
@@ -69,15 +68,32 @@ def office(version: str, day: str, scripts: list[str]) -> str:
         ".SH FILES", *[line for file, text in FILES for line in (".TP", f"\\fI{plain(file)}\\fP", plain(text))],
         ".SH EXAMPLES", ".EX", *map(plain, EXAMPLE.split("\n")), ".EE",
         ".SH SEE ALSO",
-        *[f"\\fB{plain(it)}\\fP(1)," for it in scripts], "and the pages in",
+        *[f"\\fB{plain(it)}\\fP({section_of(it)})," for it in scripts], "\\fBoffice.toml\\fP(5),",
+        "\\fBoffice.access\\fP(5), and the pages in",
         "\\fI/usr/share/doc/office/\\fP: README.md, docs/MANAGER.md for a records manager, docs/SERVICE.md for",
         "whoever runs it, docs/ERRORS.md for what each message means.",
     ]
     return "\n".join(lines) + "\n"
 
 
-def script(name: str, text: str, version: str, day: str) -> str:
-    """The page of a script: its first comment, whose first paragraph shows how it is called, a line for each way."""
+def options(entries: list[Entry]) -> list[str]:
+    return [line for entry in entries for line in (".TP", roff.call(entry.call), plain(entry.text) or "\\&")]
+
+
+def words_of(command: Command) -> list[str]:
+    """The words of a command, each with how it is called, what it does, and its options."""
+    lines: list[str] = []
+    for name, help_ in command.words.items():
+        about = command.about(name)
+        text = f"{plain(about[:1].upper() + about[1:])}." if about else "\\&"
+        lines += [".TP", roff.call(help_.usage), text]
+        lines += [".RS", *options([entry for entry in help_.entries if entry.text]), ".RE"]
+    return lines
+
+
+def script(name: str, text: str, command: Command | None, version: str, day: str) -> str:
+    """The page of a script: its first comment, whose first paragraph shows how it is called, a line for each way. What a
+    command in Python says of itself by its own help takes the place of that paragraph."""
     comment: list[str] = []
     for line in text.split("\n")[1:]:
         if not line.startswith("#"):
@@ -85,12 +101,19 @@ def script(name: str, text: str, version: str, day: str) -> str:
         comment.append(line.removeprefix("#").strip())
     paragraphs = "\n".join(comment).split("\n\n")
     calls, about = paragraphs[0].split("\n"), [it.replace("\n", " ") for it in paragraphs[1:]]
-    first = about[0].split(". ")[0].rstrip(".").split(", ")[0]
+    if command is not None:
+        calls = [command.whole.usage]
+    first = re.split(r"\. |: |, ", about[0])[0].rstrip(".")
+    section = section_of(name)
     lines = [
-        f'.TH {name.upper()} 1 {day} "office {version}" "User Commands"',
+        f'.TH {name.upper()} {section} {day} "office {version}" "{BOOKS[section]}"',
         ".SH NAME", f"{plain(name)} \\- {plain(first[0].lower() + first[1:])}",
-        ".SH SYNOPSIS", "\n.br\n".join(call(it).removeprefix("\\fBoffice\\fP ") for it in calls),
-        ".SH DESCRIPTION", *[line for it in about for line in (plain(it), ".PP")][:-1],
-        ".SH SEE ALSO", "\\fBoffice\\fP(1), \\fI/usr/share/doc/office/docs/\\fP",
+        ".SH SYNOPSIS", "\n.br\n".join(roff.call(it) for it in calls),
+        ".SH DESCRIPTION", *[line for it in about for line in (inline(it), ".PP")][:-1],
     ]
+    if command is not None and command.words:
+        lines += [".SH COMMANDS", *words_of(command)]
+    if command is not None and command.own():
+        lines += [".SH OPTIONS", *options(command.own())]
+    lines += [".SH SEE ALSO", "\\fBoffice\\fP(1), \\fI/usr/share/doc/office/docs/\\fP"]
     return "\n".join(lines) + "\n"

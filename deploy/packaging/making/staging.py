@@ -6,7 +6,7 @@ import re
 import shutil
 import subprocess
 
-from making import copies, manual
+from making import copies, formats, helps, manual
 from making.changelog import Version, debian
 from making.failing import fail
 from making.listed import DOC, DOC_REPLICAS, FILES, HERE, REPLICAS, SERVICE, SHARE, listed
@@ -87,11 +87,18 @@ def scripts_in(of: str) -> list[str]:
 
 
 def put_manuals(top: pathlib.Path, last: Version, of: str) -> None:
-    """The manual page of each script of a list."""
-    pages = top / "usr/share/man/man1"
-    for name in scripts_in(of):
+    """The manual page of each script of a list, and of the files that the package office reads."""
+    version, day = last.number, str(last.day)
+    scripts = [top / "usr/bin" / name for name in scripts_in(of)]
+    for name, command in helps.all_of(scripts).items():
         text = (top / "usr/bin" / name).read_text()
-        put_packed(manual.script(name, text, last.number, str(last.day)), pages / f"{name}.1.gz")
+        put_manual(top, name, manual.section_of(name), manual.script(name, text, command, version, day))
+    for each in formats.FORMATS if of == FILES else ():
+        put_manual(top, each.name, 5, formats.page(each, version, day))
+
+
+def put_manual(top: pathlib.Path, name: str, section: int, text: str) -> None:
+    put_packed(text, top / f"usr/share/man/man{section}" / f"{name}.{section}.gz")
 
 
 def put_listed(top: pathlib.Path, of: str) -> None:
@@ -142,7 +149,7 @@ def stage(top: pathlib.Path, program: pathlib.Path, all_versions: list[Version],
     put_links(top)
     last = all_versions[0]
     put_manuals(top, last, FILES)
-    put_packed(manual.office(last.number, str(last.day), scripts_in(FILES)), top / "usr/share/man/man1/office.1.gz")
+    put_manual(top, "office", 1, manual.office(last.number, str(last.day), scripts_in(FILES)))
     put_completion(top / "usr/share/bash-completion/completions/office")
     put(copies.text(), top / "usr/share/office/copies")
     put((HERE / "copyright").read_text(), top / DOC / "copyright")

@@ -2,6 +2,7 @@
 
 A reading is asked again until its answer is whole. An act is sent once, and whoever sent it is told that nobody knows.
 """
+import datetime
 import json
 import pathlib
 import signal
@@ -89,9 +90,56 @@ def tried(folder: pathlib.Path) -> None:
     strange(world, stand)
     broken(world, stand)
     passed(world, stand)
+    faulted(world, stand)
+    closed(world, stand)
     judge("the chain holds", world.check().returncode == 0, world.check().stderr)
-    stand.link.close()
     world.end()
+
+
+def faulted(world: World, stand: Stand) -> None:
+    """After an act that met a fault the monitor sees that, until one is done; readings go on."""
+    for fault, body in ((31, b'{"fault":31}'), (32, b'{"answers":[{"done":true}],"fault":32}')):
+        stand.told(whole(body, status="503 Service Unavailable"))
+        same(f"an act meets fault {fault}", world.act("legal", ACT)[0], 503)
+        same("the monitor sees that", world.get("monitor", "/alive"), (503, {"error": "fault"}))
+        same("readings go on", world.get("auditor", "/records/1")[0], 200)
+        stand.told(DONE)
+        same("an act is done", world.act("legal", ACT)[0], 200)
+        same("and the monitor sees that", world.get("monitor", "/alive"), (200, {"records": True}))
+    stand.told(whole(b'{"error":"memory"}', status="503 Service Unavailable"))
+    world.act("legal", ACT)
+    same("another 503 is no fault", world.get("monitor", "/alive")[0], 200)
+
+
+def closed(world: World, stand: Stand) -> None:
+    """Whoever asks an office that its administrator closed gets that at once; without a note, or after it, one waits."""
+    note, until = world.folder / "closed", datetime.datetime.now(datetime.timezone.utc) + datetime.timedelta(hours=1)
+    answer = {"error": "closed", "until": f"{until:%Y-%m-%d %H:%M}"}
+    note.write_text(f"{until.isoformat()}\n")
+    stand.told()
+    same("an office that answers is not closed", world.get("auditor", "/records/1")[0], 200)
+    stand.link.shutdown(socket.SHUT_RDWR)
+    stand.link.close()
+    began = time.monotonic()
+    for name, path in (("auditor", "/records/1"), ("monitor", "/alive")):
+        same(f"GET {path} of a closed office", world.get(name, path), (503, answer))
+    same("an act", world.act("legal", ACT), (503, answer))
+    judge("at once", time.monotonic() - began < 30)
+    line = world.last("answered")
+    same("nothing was done, by the journal", (line["status"], line.get("known", True)), (503, True))
+    threads = []
+    for name, text in (("a note that is over", f"{until - datetime.timedelta(hours=2)}"), ("no moment", "soon"), ("no zone", "2999-01-01 00:00"),
+                       ("no note", None)):
+        note.unlink() if text is None else note.write_text(text)
+        threads.append(threading.Thread(target=world.get, args=("auditor", "/records/1")))
+        threads[-1].start()
+        threads[-1].join(0.5)
+        judge(f"{name}: one waits", threads[-1].is_alive())
+    again = Stand(world.port)
+    for thread in threads:
+        thread.join()
+    again.link.shutdown(socket.SHUT_RDWR)
+    again.link.close()
 
 
 def addresses(world: World) -> None:

@@ -121,7 +121,7 @@ class World:
         words = [PYTHON, "-I", GATE, "serve", "--settings", self.settings, "--office", f"127.0.0.1:{self.port}",
                  "--journal", self.journal,
                  "--state", self.state, "--token", self.folder / "token", "--socket", self.place,
-                 "--catalogue", self.catalogue]
+                 "--catalogue", self.catalogue, "--closed", self.folder / "closed"]
         if self.decides:
             words += ["--office-token", self.folder / "office-token", "--office-reader", READER]
         return list(map(str, words))

@@ -66,23 +66,29 @@ def lists(names: list[str]) -> list[Finding]:
 
 def pages() -> dict[str, str]:
     """Makes the manual pages, by the file that each is of."""
-    manual, staging = making("manual"), making("staging")
+    manual, staging, helps, formats = (making(name) for name in ("manual", "staging", "helps", "formats"))
     texts = {"README.md": manual.office(VERSION, DAY, staging.scripts_in("files"))}
+    texts |= {each.sections[0][1]: formats.page(each, VERSION, DAY) for each in formats.FORMATS}
     for of in ("files", "replicas/files"):
-        for item in staging.listed(of):
-            if item.folder == "usr/bin":
-                name = str(item.source.relative_to(TOP))
-                try:
-                    texts[name] = manual.script(item.source.name, item.source.read_text(), VERSION, DAY)
-                except IndexError:
-                    texts[name] = ""  # a first comment without a usage, an empty line and a text
+        sources = [item.source for item in staging.listed(of) if item.folder == "usr/bin"]
+        commands = helps.all_of(sources)
+        for source in sources:
+            name = str(source.relative_to(TOP))
+            try:
+                texts[name] = manual.script(source.name, source.read_text(), commands[source.name], VERSION, DAY)
+            except IndexError:
+                texts[name] = ""  # a first comment without a usage, an empty line and a text
     return texts
+
+
+FORMATS = ("docs/SETUP.md", "docs/ACCESS.md")
+"""pages of which manual pages of files are made"""
 
 
 def has_page(name: str) -> bool:
     """Whether the package makes a manual page of a file."""
     listed = [row for item in LISTS[:2] for row in rows(item)]
-    return name == "README.md" or any(source == name and place == "/usr/bin" for _, source, place in listed)
+    return name in ("README.md", *FORMATS) or any(source == name and place == "/usr/bin" for _, source, place in listed)
 
 
 def usage(name: str) -> list[Finding]:
@@ -113,7 +119,7 @@ def manuals(names: list[str]) -> list[Finding]:
                 piece = text.split("\n")[int(at[1]) - 1] if at else ""
                 why = f"its manual page: {item.partition('page.1:')[2]}: {piece[:60]}"
                 findings.append(Finding(name, line_of(read(name), piece[:30]), why))
-            if name != "README.md":
+            if name not in ("README.md", *FORMATS):
                 findings += usage(name)
             for part in ("NAME", "SYNOPSIS", "DESCRIPTION"):
                 if text and not re.search(rf"^\.SH {part}\n(?!\.SH)(.+)", text, re.M):

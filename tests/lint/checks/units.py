@@ -22,7 +22,7 @@ NOT_HERE = re.compile(r"Command /\S+ is not executable: No such file or director
 """what is said of a program that is installed elsewhere; own programs are looked for in the repository"""
 MAIL = {"office-failed@.service": 6.5, "office-overdue-mail@.service": 6.5, "office-sign-in-mail.service": 6.5}
 """units that hand mail to the machine's mail program, which becomes another user"""
-EXPOSED = {**MAIL, "office-certificates@.service": 0.6, "office-compact@.service": 1.1,
+EXPOSED = {**MAIL, "office-certificates@.service": 0.6, "office-compact@.service": 1.1, "office-doctor.service": 2.5,
            "office-etcd-defrag.service": 1.3, "office-etcd.service": 1.5, "office-gate@.service": 1.7, "office-intake@.service": 1.3,
            "office-journal-check@.service": 1.1, "office-member-nightly@.service": 1.5, "office-member@.service": 1.3,
            "office-renew@.service": 1.4,

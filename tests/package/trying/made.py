@@ -5,12 +5,13 @@ import pathlib
 import re
 import shutil
 import subprocess
+from concurrent.futures import ThreadPoolExecutor
 
 from making import staging
 from making.words import TOP, table
 from trying import copies
 from kit.judging import judge
-from trying.machine import run
+from trying.machine import Done, run
 
 PROGRAM = pathlib.Path(os.environ.get("OFFICE", TOP / "crates/office/out/office")).resolve()
 MAKE = TOP / "deploy/packaging/make"
@@ -72,18 +73,41 @@ def judge_lintian(file: pathlib.Path) -> None:
 
 
 def judge_manual(top: pathlib.Path) -> None:
-    """office(1) has each word of README, without a fault of its form."""
-    pages = sorted((top / "usr/share/man/man1").iterdir())
-    names = sorted(it.name.removesuffix(".1.gz") for it in pages)
+    """Each command and each file that people write has its page, in its section, without a fault of its form."""
+    pages = sorted(it for section in (1, 5, 8) for it in (top / f"usr/share/man/man{section}").iterdir())
+    sections = {it.name.rsplit(".", 2)[0]: it.parent.name for it in pages}
     tools = sorted(it.name for it in (top / "usr/bin").iterdir())
-    judge("each program has its manual page", names == tools, names)
-    for page in pages:
-        done = run(["man", "--warnings", "-E", "ascii", "-l", page], MANWIDTH="100")
+    judge("each program has its manual page", sorted(it for it in sections if sections[it] != "man5") == tools, sections)
+    judge("so has each file that people write", [it for it in sections if sections[it] == "man5"] == ["office.access", "office.toml"])
+    judge("what root runs is of section 8", (sections["office-setup"], sections["office-check"], sections["office"]) ==
+          ("man8", "man1", "man1"), sections)
+    judge("no other section has a page", {it.name for it in (top / "usr/share/man").iterdir()} == {"man1", "man5", "man8"})
+    with ThreadPoolExecutor(4) as threads:
+        texts = dict(zip(pages, threads.map(shown, pages), strict=True))
+    for page, done in texts.items():
         judge(f"{page.name} has no fault of form", done.status == 0 and done.err == "", done.err)
-        if page.name == "office.1.gz":
-            text = re.sub(r"\s+", " ", re.sub(r".\x08", "", done.out))
-            missing = [call for word in table() for call in word.calls if f"office {call}" not in text]
-            judge("office(1) has each word of README's table", not missing, missing)
+    judge_words({page.name.rsplit(".", 2)[0]: re.sub(r"\s+", " ", re.sub(r".\x08", "", done.out)) for page, done in texts.items()}, top)
+
+
+def shown(page: pathlib.Path) -> Done:
+    """Shows a manual page as `man` does, without hyphens of its own."""
+    return run(["man", "--warnings", "--no-hyphenation", "--no-justification", "-E", "ascii", "-l", page], MANWIDTH="200")
+
+
+def judge_words(texts: dict[str, str], top: pathlib.Path) -> None:
+    """The pages have each word and option, and each key."""
+    missing = [call for word in table() for call in word.calls if f"office {call}" not in texts["office"]]
+    judge("office(1) has each word of README's table", not missing, missing)
+    for name, args in (("office-setup", ["close"]), ("office-setup", ["doctor"]), ("office-sign-in", ["gates"]), ("office-gate", ["serve"]),
+                       ("office-verify", []), ("office-vault", ["sweep"])):
+        help_ = run([top / "usr/bin" / name, *args, "--help"]).out
+        options = set(re.findall(r"--[a-z][a-z-]+", help_)) - {"--help"}
+        lacking = [option for option in options if option not in texts[name]]
+        judge(f"{name} has the options of {' '.join([name, *args])}", options and not lacking, lacking)
+        judge("and its usage", " ".join([name, *args]) in texts[name])
+    lacking = [key for key in ("site", "[sign_in.groups]", "day-ends", "issuer", "changer-does-not-open = 60") if key not in texts["office.toml"]]
+    judge("office.toml(5) has the keys", not lacking, lacking)
+    judge("office.access(5) has the statements", "name" in texts["office.access"] and "role" in texts["office.access"])
 
 
 # what is typed, and what bash offers

@@ -2,19 +2,24 @@
 from __future__ import annotations
 
 import contextlib
+import datetime
 import hashlib
 import http.server
 import json
 import os
 import pathlib
+import re
+import shutil
 import socket
+import sqlite3
 import ssl
 import threading
 import time
 from collections.abc import Callable, Iterator
+from zoneinfo import ZoneInfo
 
-from kit.commands import run
-from kit.judging import judge
+from kit.commands import TOP, run
+from kit.judging import judge, same
 from kit.ports import free_port
 from setup_trial.room import SITE, Room, set_log
 
@@ -53,7 +58,7 @@ def name_of(hours: float) -> str:
 def make_well(room: Room) -> None:
     """Makes the office one in which nothing is wrong, as far as a folder can."""
     room.change("/etc/office/city.toml", "#elsewhere = false", "elsewhere = true")
-    room.put(f"{COPIES}/{name_of(1)}", "a copy")
+    room.put(f"{COPIES}/{name_of(1)}", "")
     certificate = room.put(f"{CERTIFICATES}/certificate-1.txt", "CERTIFICATE 1\n")
     room.put(f"{SEALS}/certificate-1.txt", "CERTIFICATE 1\n")
     os.utime(certificate, (time.time() - 2 * DAY, time.time() - 2 * DAY))
@@ -116,6 +121,87 @@ def judge_each(room: Room, port: int) -> None:
         lines = wrong
 
 
+def measures(room: Room, port: int) -> dict[str, float]:
+    """Returns what `doctor` writes for Prometheus, whose own tool takes it."""
+    file = room.folder / "office.prom"
+    done = room.setup("doctor", "--port", port, "--prometheus", file)
+    same("`doctor --prometheus` prints nothing, and ends well", (done.status, done.out, done.error), (0, "", ""))
+    data = file.read_bytes()
+    if shutil.which("promtool"):
+        done = run("promtool", "check", "metrics", data=data)
+        same("promtool takes its lines", (done.status, done.out + done.error), (0, ""))
+    same("anybody reads them", file.stat().st_mode & 0o777, 0o644)
+    lines = [line.rsplit(" ", 1) for line in data.decode().splitlines() if not line.startswith("#")]
+    return {name: float(value) for name, value in lines}
+
+
+def judge_measures(room: Room, port: int) -> None:
+    """Of an office that is well each check is 1, and the numbers are those of its files."""
+    found = measures(room, port)
+    checks = {name: value for name, value in found.items() if name.startswith("office_check_well")}
+    judge("each check is well", len(checks) == 10 and set(checks.values()) == {1}, checks)
+    file = room.at("/var/lib/office/city/office.db")
+    same("the bytes of FILE", found['office_file_bytes{office="city"}'], file.stat().st_size)
+    judge("what is free", abs(found['office_free_bytes{office="city"}'] - shutil.disk_usage(file.parent).free) < 1 << 30)
+    judge("the age of the copy", 3_500 < found['office_copy_age_seconds{office="city"}'] < 4_500, found)
+    same("no certificate lacks a seal", found['office_certificates_unsealed{office="city"}'], 0)
+    judge("the end of the certificate of the site", 364 < (found["office_site_certificate_end_seconds"] - time.time()) / DAY < 366)
+    judge("the moment", abs(found["office_doctor_seconds"] - time.time()) < 60)
+    copy = next(iter(room.at(COPIES).iterdir()))
+    with contextlib.closing(sqlite3.connect(copy)) as database:
+        database.executescript("CREATE TABLE runs (num, closed); INSERT INTO runs VALUES (1, 1), (2, 0);")
+    same("the open run of the copy", measures(room, port)['office_run_open{office="city"}'], 2)
+    judge_names(set(re.findall("^office_[a-z_]+", (room.folder / "office.prom").read_text(), re.M)))
+
+
+def judge_names(ours: set[str]) -> None:
+    """The rules and the dashboard name what somebody writes: `doctor`, the gate, or the probe."""
+    gate = {f"office_gate_{name}" for name in re.findall(r'"(waiting|journal_line|journal_well)"', (
+        TOP / "companions/gate/office_gate/reading.py").read_text())} | {"office_gate_answers_total", "office_gate_seconds_total"}
+    for name in ("office.rules.yml", "office.dashboard.json"):
+        named = set(re.findall(r"\b(?:office|probe)_[a-z_]+", re.sub(r"job[^,}]*", "", (TOP / "deploy/monitor" / name).read_text())))
+        strange = named - ours - gate - {"probe_success", "probe_duration_seconds", "probe_ssl_earliest_cert_expiry"}
+        judge(f"{name} names what is there", len(named) > 5 and not strange, strange)
+
+
+def judge_wrong_measures(room: Room, port: int) -> None:
+    """What is wrong is 0, and the numbers show it."""
+    found = measures(room, port)
+    wrong = {name.split('check="')[1].rstrip('"}') for name, value in found.items() if name.startswith("office_check") and not value}
+    same("the checks that are wrong are 0", wrong, {"append", "clock", "copy", "journal", "seals", "units"})
+    same("a certificate lacks its seal", found['office_certificates_unsealed{office="city"}'], 1)
+    judge("there is no age of a copy", 'office_copy_age_seconds{office="city"}' not in found)
+    folder = room.at("/var/lib/office/city")
+    run("chattr", "+i", folder)
+    done = room.setup("doctor", "--port", port)
+    run("chattr", "-i", folder)
+    judge("a FILE that cannot be written is wrong", "WRONG city: FILE cannot be written: " in done.out, done)
+    same("nothing stays of the look", [path.name for path in folder.iterdir() if not path.name.startswith("office.db")], [])
+
+
+def judge_closed(room: Room) -> None:
+    """An office is closed up to a moment, which the gate reads, and opened again."""
+    note = room.at("/run/office-gate/city/closed")
+    done = room.setup("close", "city", "--until", "23:59")
+    judge("without its gate no office is closed", done.status == 2 and "the gate of city is off" in done.error, done)
+    note.parent.mkdir(parents=True)
+    zone = ZoneInfo("Europe/Berlin")
+    now = datetime.datetime.now(zone)
+    for text in ("soon", "25:00", f"{now - datetime.timedelta(minutes=2):%Y-%m-%d %H:%M}", "2999-01-01 00:00", ""):
+        judge(f"nor up to {text!r}", room.setup("close", "city", "--until", text).status == 2 and not note.exists(), is_quiet=True)
+    earlier, later = now - datetime.timedelta(hours=1), now + datetime.timedelta(days=2)
+    for text, moment in ((f"{earlier:%H:%M}", earlier + datetime.timedelta(days=1)), (f"{later:%Y-%m-%d %H:%M}", later)):
+        done = room.setup("close", "city", "--until", text)
+        judge(f"up to {text}", done.status == 0 and f"closed until {moment:%Y-%m-%d %H:%M}" in done.out, done)
+        same("the gate reads that, with the zone", datetime.datetime.fromisoformat(note.read_text().strip()).astimezone(zone).replace(
+            second=0), moment.replace(second=0, microsecond=0))
+        same("who reads the note", note.stat().st_mode & 0o777, 0o644)
+    judge("the office is stopped, and its gate is not", "office@city.service" not in room.units()
+          and "office-gate@city.service" in room.units(), room.units())
+    done = room.setup("open", "city")
+    judge("it is opened", done.status == 0 and "office@city.service" in room.units() and not note.exists(), done)
+
+
 def doctor(folder: pathlib.Path) -> None:
     """The office is made, and nothing of it answers but what stands in for nginx."""
     with Room(folder) as room:
@@ -130,7 +216,8 @@ def doctor(folder: pathlib.Path) -> None:
                   done)
         with answering(room, port, 401):
             done = room.setup("doctor", "--port", port)
-            judge("an office that is well", done.status == 0 and "WRONG" not in done.out and done.out.count("well ") == 9, done)
+            judge("an office that is well", done.status == 0 and "WRONG" not in done.out and done.out.count("well ") == 10, done)
+            judge_measures(room, port)
             # the rules of nftables are a stand-in's, so somebody reaches whatever listens at the port
             with socket.create_server(("127.0.0.1", 8081)):
                 done = room.setup("doctor", "--port", port)
@@ -141,7 +228,9 @@ def doctor(folder: pathlib.Path) -> None:
                   and done.status == 1, done)
             room.change("/etc/office/city.toml", "elsewhere = false", "elsewhere = true")
             judge_each(room, port)
+            judge_wrong_measures(room, port)
         shorten_certificate(room)
         done = room.setup("doctor", "--port", port)
         judge("a certificate of 20 days is wrong", "WRONG the certificate of the site" in done.out, done)
         judge("an office that is not there", room.setup("doctor", "court").status == 2)
+        judge_closed(room)

@@ -109,23 +109,6 @@ def judge_own(room: Room) -> None:
     judge("which is not mended", done.status == 2 and "write: name NAME is" in done.error, done)
 
 
-def judge_directory(room: Room) -> None:
-    """With a directory the site asks office-sign-in; without one it asks for passwords again."""
-    text = room.text("/etc/office/city.access")
-    room.put("/etc/office/city.access", text.replace("name boss might all\n", ""))
-    site, before = "/etc/nginx/sites-available/office", room.text("/etc/office/city.toml")
-    own = re.findall(r'^site = "(.+)"$', before, re.M)[0]
-    for way, asks, line in (("directory", True, f"{own} 1;"), ("password", False, "")):
-        room.put("/etc/office/city.toml", f'sign-in = "{way}"\n{before}')
-        done = room.setup("apply")
-        judge(f"by {way}: `apply` changes the site", done.status == 0 and site in done.out, done)
-        same(f"by {way}: nginx asks office-sign-in, or not", [
-            "include /etc/nginx/office/sign_in.conf;" in room.text(site), "include /etc/nginx/office/gate.conf;\n        proxy_pass "
-            "http://unix:/run/office-gate/city/socket:$path" in room.text(site)], [asks, not asks])
-        same(f"by {way}: the name of the site", room.text("/etc/nginx/office/sign_in_site.map").splitlines()[1:], [line] if line else [])
-        same(f"by {way}: nothing differs", room.setup("check").out, "0 differences\n")
-
-
 def people(folder: pathlib.Path) -> None:
     """One office, whose people change."""
     with Room(folder) as room:
@@ -135,4 +118,3 @@ def people(folder: pathlib.Path) -> None:
         judge_all_others(room)
         judge_rules(room)
         judge_own(room)
-        judge_directory(room)

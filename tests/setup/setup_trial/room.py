@@ -19,7 +19,7 @@ SOURCES = pathlib.Path(os.environ.get("SETUP_SOURCES", TOP / "companions"))
 """the companions that are tried: those of the repository, or a copy with a mistake"""
 STUB = pathlib.Path(__file__).with_name("stub")
 STAND_INS = ("systemctl", "nginx", "nft", "timedatectl")
-USERS = ("office", "office-gate", "office-vault", "www-data")
+USERS = ("office", "office-gate", "office-vault", "www-data", "office-sign-in")
 FIRST_UID = 64_900
 GROUPS = (*USERS, "adm")
 NGINX_CONF = "user www-data;\nevents {\n\tworker_connections 768;\n}\nhttp {\n\tinclude /etc/nginx/sites-enabled/*;\n}\n"
@@ -184,7 +184,7 @@ class Room:
 
     def variables(self) -> dict[str, str]:
         """Returns the environment in which office-setup finds the commands of this machine."""
-        folders = [self.commands, SOURCES / "gate", SOURCES / "vault", "/usr/sbin:/usr/bin:/sbin:/bin"]
+        folders = [self.commands, *(SOURCES / name for name in ("gate", "vault", "signin")), "/usr/sbin:/usr/bin:/sbin:/bin"]
         return {"PATH": ":".join(map(str, folders)), "ROOM": str(self.folder), "OFFICE": str(self.commands / "office")}
 
     def setup(self, *arguments: object) -> Done:

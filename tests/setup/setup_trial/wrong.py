@@ -19,8 +19,6 @@ LINES = (
     (TOP + 'certificate = "c"\nkey = "/k"', PEOPLE, "certificate: 'c' is not the path of a file"),
     (TOP + 'certificate = "/none"\nkey = "/none"', PEOPLE, "certificate: there is no file /none"),
     (TOP + 'default-server = "no"', PEOPLE, "default-server: 'no' is neither true nor false"),
-    (TOP + 'sign-in = "ldap"', PEOPLE, "sign-in: 'ldap' is not password or directory"),
-    (TOP + 'sign-in = "directory"', PEOPLE, "people: the directory has the people, and /etc/office-sign-in"),
     (TOP + 'title = ""', PEOPLE, "title: '' is not a text of one line"),
     (TOP + 'title = "a\\nb"', PEOPLE, "title: 'a\nb' is not a text of one line"),
     (TOP + 'colour = "red"', PEOPLE, "colour: 'red' is not a colour of six digits"),

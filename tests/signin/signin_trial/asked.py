@@ -18,6 +18,7 @@ def asked(folder: pathlib.Path) -> None:
     room = Room(folder / "room", HEAD + directory(slapd, folder / "room") + ROLES + others())
     try:
         room.start()
+        asked_by_hand(room, slapd)
         groups_again(room, slapd)
         names_given_again(room, slapd)
         away(room, slapd)
@@ -26,6 +27,22 @@ def asked(folder: pathlib.Path) -> None:
         room.stop()
         slapd.stop()
     ways(folder)
+
+
+def asked_by_hand(room: Room, slapd: Slapd) -> None:
+    """`check --ask` reports whether the directory answers the reader."""
+    def ask() -> tuple[int, str]:
+        done = tool("check", "--ask", "--settings", room.file)
+        return done.status, done.error
+    same("the directory answers", ask(), (0, ""))
+    reader = room.folder / "reader"
+    kept = reader.read_text()
+    reader.write_text("another\n")
+    judge("it does not take another password of the reader", ask()[0] == 3 and "does not take the password of" in ask()[1], ask())
+    reader.write_text(kept)
+    slapd.hang()
+    judge("it hangs", ask()[0] == 3, is_quiet=True)
+    slapd.go_on()
 
 
 def groups_again(room: Room, slapd: Slapd) -> None:

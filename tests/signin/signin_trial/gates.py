@@ -34,8 +34,8 @@ class Gates:
         self.people.write_text(table if isinstance(table, str) else json.dumps(table))
         return self.give()
 
-    def give(self) -> Done:
-        return tool("gates", "--settings", self.settings, "--people", self.people, "--given", self.given, "--gates", self.gates,
+    def give(self, *more: str) -> Done:
+        return tool("gates", *more, "--settings", self.settings, "--people", self.people, "--given", self.given, "--gates", self.gates,
                     "--own", self.own, "--check", f"/usr/bin/python3 -I {GATE} check", "--reload", self.reload)
 
     def text(self) -> str:
@@ -53,6 +53,24 @@ def entry(signs: str = "anna", **grants: list[str]) -> dict[str, object]:
     return {"name": "anna", "signs": signs, "groups": [], "grants": grants or {"city": ["registry"]}, "day": "2026-12-01"}
 
 
+def compared(it: Gates) -> None:
+    """A comparison names the gates that lack the table, and changes nothing."""
+    file, own = it.gates / "city.access", it.own / "city.access"
+    before, reloads, table = file.read_text(), it.reloads(), it.people.read_text()
+    same("a gate that has the table", it.give("--compare")[:2], (0, ""))
+    for name, path, text in (("another table", it.people, "{}"), ("other statements", own, OWN.replace("keep contents 3", "keep contents 4")),
+                             ("a line that somebody wrote", file, before.replace("begin\n", "begin\nname eve is registry\n"))):
+        kept = path.read_text()
+        path.write_text(text)
+        same(f"{name} is seen", it.give("--compare")[:2], (1, "the gate of city has other settings\n"))
+        path.write_text(kept)
+    file.unlink()
+    same("a gate without settings is seen", it.give("--compare")[:2], (1, "the gate of city has other settings\n"))
+    judge("and gets none", not file.exists())
+    file.write_text(before)
+    same("nothing was changed", (it.people.read_text(), it.reloads()), (table, reloads))
+
+
 def gates(folder: pathlib.Path) -> None:
     it = Gates(folder / "gates")
     same("nobody yet", (it.put({}).status, it.text(), it.reloads()), (0, "", 1))
@@ -65,6 +83,7 @@ def gates(folder: pathlib.Path) -> None:
     judge("and the mark of the end below them", OWN.endswith(END) and text.endswith(END))
     same("the gate is told, once for each change", (it.reloads(), it.give().status, it.reloads()), (2, 0, 2))
     same("what was given is noted", len(it.given.read_text()), 64)
+    compared(it)
     rights = run("/usr/bin/python3", "-I", GATE, "rights", it.gates / "city.access", "b-2@directory")
     judge("the gate knows what a person may do", "Bert Beck, roles: records-manager department" in rights.out, rights)
     unmarked(it)
