@@ -55,7 +55,8 @@ def add_options(parser: argparse.ArgumentParser) -> None:
     parser.add_argument("--cut", action="store_true", default=None, help="a table that ends within a line is whole")
     parser.add_argument("--schedule", type=code, metavar="CODE", help="the schedule of classes for which the source has none")
     for name in ("trigger", "unit", "offset", "action"):
-        parser.add_argument(f"--{name}", choices=WORDS[name], help=f"the {name} of rules for which the source has none")
+        parser.add_argument(f"--{name}", choices=WORDS[name], metavar=name.upper(),
+                            help=f"the {name} of rules for which the source has none: {', '.join(WORDS[name])}")
 
 
 def parsed(arguments: Sequence[str]) -> argparse.Namespace:
