@@ -2,12 +2,13 @@
 //!
 //! Its command line is read by `office_command_line`. The commands that open no office are done by
 //! `office_plan`; those on the office in a file by `office_commands`, which opens it (`disks`). What is
-//! here joins the process's own streams, files and socket to them: for `serve` a port is bound
-//! first.
+//! here joins the process's own streams, files and socket to them: for `serve` and `gate` a port is
+//! bound first, and `gate` keeps a journal in a file of its own (`journal`).
 #![tactic(auto)]
 
 mod access;
 mod disks;
+mod journal;
 
 use crate::access::{Door, gate_in};
 use crate::disks::{Place, apply_in, disk_of_process, run_in, serve_in};
@@ -72,8 +73,13 @@ fn run_on_disk(rt: &HostRuntime, disk: Disk, order: &Order<'_>) -> u8 {
             count,
             access,
             token,
+            journal,
         } => {
-            let door = Door { access, token };
+            let door = Door {
+                access,
+                token,
+                journal,
+            };
             report_exit(rt, gate_in(rt, Place { file, disk }, *port, *count, door))
         }
         Order::Due { .. } | Order::Plan { .. } | Order::Nothing => report_exit(rt, Exit::BadWords),
