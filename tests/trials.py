@@ -57,7 +57,7 @@ LANDING = [
               gone=200, kinds=200, site=200, stamps=300, clocks=300, strangers=300, stamped=300, ended=300, lost=300,
               words=300, bytes_of_a_seal=300, years=400, beside=300, thousand=400, mail=200),
     Trial("tests/intake/run", "a folder and a mailbox come in, and come in again", needs="program nodejs", limit=400),
-    *parts_of("tests/library/run", "program", shipped=200, filed=200, added=100, laws=400, saved=60, wrong=60, damaged=60,
+    *parts_of("tests/library/run", "program", shipped=200, filed=200, added=100, made=60, laws=400, saved=60, wrong=60, damaged=60,
               ends=60, lists=100, counted=60, catalogued=100, deciding=100),
     Trial("tests/library/run page", "", needs="program nodejs", limit=100),
     Trial("tests/yearend/run", "lists of the year's end go on their day alone", needs=f"{GATE} faketime", limit=400),
