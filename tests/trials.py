@@ -63,7 +63,7 @@ LANDING = [
     Trial("tests/intake/run", "a folder and a mailbox come in, and come in again", needs="program nodejs", limit=400),
     *parts_of("tests/bring/run", "program", share=200, xdomea=200, sharepoint=200, trim=200, alfresco=200, plans=100, sums=100, markup=100,
               cut=100, tables=100, rows=60, things=60, names=60, bounded=100, by_chance=200, codes=100, days=60, again=200, stopped=100),
-    *parts_of("tests/library/run", "program", shipped=200, filed=200, added=100, laws=400, saved=60, wrong=60, damaged=60,
+    *parts_of("tests/library/run", "program", shipped=200, filed=200, added=100, made=60, laws=400, saved=60, wrong=60, damaged=60,
               ends=60, lists=100, counted=60, catalogued=100, deciding=100),
     Trial("tests/library/run page", "", needs="program nodejs", limit=100),
     Trial("tests/yearend/run", "lists of the year's end go on their day alone", needs=f"{GATE} faketime", limit=400),

@@ -1,17 +1,20 @@
 """What office-library shows beside the rows of an office, compared with the model."""
 from __future__ import annotations
 
+import csv
+import io
 import json
 import random
 from pathlib import Path
 
 from kit.commands import office
 from kit.judging import judge, same
-from library.making import DAYS, is_one, office as acts_of, rows, sheet
+from library.making import CLASSES, DAYS, RULES, is_one, office as acts_of, rows, sheet
 from library.model import Cells, Model
 from library.place import COUNT, OFFICES, applied, library, table
 
 RUN_DAY = "2023-05-05"
+HEADER = ["record", "ref", "class", "schedule", "action", "due", "held", "confirmed"]
 SHOWN = [*DAYS, "2018-12-31", "2020-01-01", "2024-02-28", "2031-01-01"]
 
 
@@ -52,6 +55,32 @@ def added(folder: Path) -> None:
         kept = {(code, day) for code, days in model.days.items() for day in days}
         same(f"seed {seed}: the entries that are there", set(entries_in(file)), kept)
     judge("random libraries are added as the model adds them", True)
+
+
+def made_rows(chance: random.Random) -> list[list[str]]:
+    """Makes the rows of a register by chance, some of a class that no library has."""
+    return [[str(at), chance.choice(['r, "1"', "Ä;b", "x"]), chance.choice([*CLASSES, "NONE"]), chance.choice(list(RULES)), "destroy",
+             "2020-01-01", "", "yes"] for at in range(1, 30)]
+
+
+def made(folder: Path) -> None:
+    """Registers and certificates that are made by chance show what the model shows, without an office."""
+    shown = 0
+    for seed in range(COUNT):
+        chance, model, kept = random.Random(4000 + seed), Model(), folder / f"{seed}.laws"
+        grown(chance, folder, model, kept, 6)
+        rows_made = made_rows(chance)
+        out = io.StringIO()
+        csv.writer(out, lineterminator="\n").writerows([HEADER, *rows_made])
+        for day in SHOWN:
+            shown += judge_register(f"seed {seed} as of {day}", model, kept, out.getvalue(), day)
+            entries = "".join("\t".join(["ENTRY", row[0], "destroyed", *row[1:4], row[5], "-", "Ada", "1", "0" * 64]) + "\n"
+                              for row in rows_made)
+            text = f"CERTIFICATE 1\nDAY {day}\nBY DAY 2099-01-01\nENDED 29\n{entries}SPENT 0\nSHA256 0\n"
+            wanted = [[row[0], "destroyed", *row[1:4], row[5], *model.law(row[2], row[3], day)] for row in rows_made]
+            done = library("why", kept, "-", data=text.encode())
+            same(f"seed {seed}: a certificate of {day}", (done.status, table(done.out)[1:]), (0, wanted))
+    judge("made registers and certificates show laws, and each the model's", shown > COUNT, shown)
 
 
 def laws(folder: Path) -> None:
