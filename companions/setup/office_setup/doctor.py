@@ -28,6 +28,8 @@ SEAL_HOURS = 24
 BLOCK = 65_536
 ROOM = 3
 """so many times FILE should be free on its disk"""
+SIGN_IN = "office-sign-in: "
+"""how a message of it begins"""
 NUMBER = re.compile(r"certificate-(\d+)\.txt")
 
 
@@ -218,9 +220,13 @@ def known_people(machine: Machine) -> Iterator[Finding]:
     """Has office-sign-in ask the directory or the provider with its own rights, and look at the tokens of programs."""
     done = machine.run_as("office-sign-in", "office-sign-in", "check", "--ask", "--settings", machine.at(sign_in.SETTINGS))
     lines = done.text.splitlines() or [""]
-    yield Finding(done.status == 0, lines[0] if done.status == 0 else f"nobody signs in: {lines[-1]}")
-    for line in lines[1:] if done.status == 0 else []:
-        yield Finding(False, line)
+    if done.status:
+        # the message may stand above what was printed
+        errors = [line for line in lines if line.startswith(SIGN_IN)] or lines
+        yield Finding(False, f"nobody signs in: {errors[-1].removeprefix(SIGN_IN)}")
+        return
+    yield Finding(True, lines[0])
+    yield from (Finding(False, line) for line in lines[1:])
 
 
 def signing(machine: Machine, offices: list[Office], port: int) -> Iterator[tuple[str, Finding]]:

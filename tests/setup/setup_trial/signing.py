@@ -306,8 +306,9 @@ def judge_doctor(room: Room) -> None:
         same("a token that ended, a journal that can be rewritten, and a unit that failed", wrong_of_sign_in(room, port), [
             "the token of intake ended on 2026-01-31", "the journal can be rewritten: journal", "failed: office-sign-in.service"])
         set_log(room.at(JOURNAL), True)
-    same("neither the site nor the provider answers", [line.split(":")[0] for line in wrong_of_sign_in(room, port)][:2], [
-        "the form does not answer", "nobody signs in"])
+    wrong = wrong_of_sign_in(room, port)
+    judge("neither the site nor the provider answers", wrong[0].startswith("the form does not answer: ")
+          and wrong[1].startswith("nobody signs in: the provider does not answer: "), wrong)
 
 
 def signing(folder: pathlib.Path) -> None:

@@ -91,6 +91,9 @@ class Lemon(Machine):
         self.put("root/slapd.conf", CONF.format(folder="/root/slapd", base=BASE, root=ROOT, password=ROOT_PASSWORD).replace(
             "TLSCertificate", "#TLSCertificate"))
         self.put("etc/hosts", HOSTS)
+        # the provider asks for it at each start, for pictures of a captcha that nobody is shown here
+        (top / "etc/perl/Image").mkdir(parents=True)
+        self.put("etc/perl/Image/Magick.pm", "package Image::Magick;\n1;\n")
         self.put("usr/local/bin/editor", EDITOR, 0o755)
 
     def browse(self, name: str, url: str, *fields: str) -> tuple[str, str, str]:
