@@ -45,7 +45,7 @@ LANDING = [
     *parts_of("tests/gate/run", f"{GATE} faketime gcc", clocks=600),
     *parts_of("tests/gate/run", f"{GATE} nginx faketime", nginx=400, vault=400),
     *parts_of("tests/gate_command/run", "program h11", starts=200, forged=300, roles=200, lists=300, eyes=200, readings=200,
-              renewed=200, kills=300),
+              renewed=200, kills=300, journaled=300),
     *parts_of("tests/vault/run", VAULT, forms=100, answers=200, hostile=200, guards=300, clients=300, rights=200,
               shared=300, uploads=400, power=200, full=300, restored=300),
     *parts_of("tests/vault/run", f"{VAULT} nodejs", page=300),
