@@ -87,7 +87,9 @@ def examine(options: argparse.Namespace, machine: Machine) -> int:
     looks = doctor.looks(machine, offices, options.port)
     if options.prometheus is not None:
         text = measures.text_of(machine, offices, list(looks))
-        files.write(options.prometheus, text.encode(), 0o644, (0, 0))
+        # node-exporter reads it; the unit may change no owner
+        os.umask(0o022)
+        files.write(options.prometheus, text.encode(), 0o644)
         return 0
     wrong = 0
     for look in looks:

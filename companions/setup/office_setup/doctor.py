@@ -217,8 +217,8 @@ def form(machine: Machine, office: Office, port: int) -> Finding:
 
 
 def known_people(machine: Machine) -> Iterator[Finding]:
-    """Has office-sign-in ask the directory or the provider with its own rights, and look at the tokens of programs."""
-    done = machine.run_as("office-sign-in", "office-sign-in", "check", "--ask", "--settings", machine.at(sign_in.SETTINGS))
+    """Has office-sign-in ask the directory or the provider, and look at the tokens of programs."""
+    done = machine.run("office-sign-in", "check", "--ask", "--settings", machine.at(sign_in.SETTINGS))
     lines = done.text.splitlines() or [""]
     if done.status:
         # the message may stand above what was printed

@@ -110,17 +110,10 @@ class Machine:
             raise Refused(IMPOSSIBLE, f"{' '.join(str(each) for each in arguments)}: {done.text}")
         return done.text
 
-    def run_as(self, user: str, *arguments: str | Path) -> Ended:
-        """Runs a command as a user of the machine, whose group has the same name, and returns how it ended."""
-        return self.run(*self.as_user(user, arguments))
-
     def must_as(self, user: str, *arguments: str | Path) -> str:
-        """Runs a command as such a user, which has to succeed."""
-        return self.must(*self.as_user(user, arguments))
-
-    def as_user(self, user: str, arguments: tuple[str | Path, ...]) -> tuple[str | Path, ...]:
+        """Runs a command as a user of the machine, whose group has the same name."""
         uid, gid = self.ids(Owner(user, user, 0))
-        return "setpriv", f"--reuid={uid}", f"--regid={gid}", "--clear-groups", "--", *arguments
+        return self.must("setpriv", f"--reuid={uid}", f"--regid={gid}", "--clear-groups", "--", *arguments)
 
     def has_command(self, name: str) -> bool:
         return shutil.which(name) is not None

@@ -20,7 +20,8 @@ GATE_SETTINGS = Owner("root", "office-gate", 0o640)
 LOGS, JOURNAL = "/var/log/office-sign-in", "journal"
 PEOPLE, GIVEN = "/var/lib/office-sign-in/people.json", "/run/office-sign-in-gates/given"
 SERVICE, GATES = "office-sign-in.service", "office-sign-in-gates.service"
-UNITS = ("office-sign-in-gates.path", SERVICE)
+UNITS = (SERVICE, "office-sign-in-gates.path")
+"""in this order: what the path unit looks at is in a folder that the service makes"""
 MAILS = "office-sign-in-mail.path"
 COMPLAINT = re.compile(r"office-sign-in: \S+/settings\.toml: ([^:]+): (.+)")
 MADE_THERE = b"by office-sign-in"

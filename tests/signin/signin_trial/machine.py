@@ -111,8 +111,9 @@ def judge_people(machine: Machine) -> None:
         f"{CURL} --write-out '%{{http_code}} %{{redirect_url}}' --output /dev/null https://{SITE}/city/web/").out
         == f"302 https://{SITE}/sign-in?to=/city/web/")
     same("bert signs in", machine.form("bert", PASSWORDS["bert"]), "303")
-    rights = machine.as_("bert", "/city/rights")
-    judge("the gate knows bert at once, by his group", '"by":"bert"' in rights and "records-manager" in rights, rights)
+    # a sign-in waits for the gate, but for five seconds at most
+    judge("the gate knows bert by his group", comes(lambda: '"by":"bert"' in machine.as_("bert", "/city/rights"), 60)
+          and "records-manager" in machine.as_("bert", "/city/rights"))
     plan = [{"act": "add-schedule", "code": "D1", "trigger": "added", "unit": "years", "count": 1, "offset": "none", "action": "destroy",
              "day": today()}]
     same("and lets him act", machine.as_("bert", "/city/acts", plan), '[{"done":true}] 200')
@@ -140,7 +141,7 @@ def judge_watched(machine: Machine) -> None:
     wells = dict(re.findall(r'office_check_well\{office="\w*",check="([a-z-]+)"\} ([01])', done.out))
     by_hand = machine.run("office-setup doctor").out
     same("the unit of doctor finds what the command finds", sum(it == "0" for it in wells.values()), by_hand.count("WRONG"))
-    judge("of sign-in too", wells.get("sign-in-people") == wells.get("https") == wells.get("room") == "1" and len(wells) > 12, done)
+    judge("of sign-in too", wells.get("sign-in-people") == wells.get("https") == wells.get("room") == "1" and len(wells) > 12, (wells, by_hand))
     machine.run("office-setup close city --until 23:59")
     closed = machine.run(f"time {CURL} --cookie /tmp/bert.jar https://{SITE}/city/records/1")
     judge("who asks a closed office gets that at once", '"error":"closed"' in closed.out and "23:59" in closed.out
@@ -180,7 +181,7 @@ def judge_power_cut(machine: Machine) -> None:
     machine.judge_same("after a power cut")
     same("sessions are over", machine.as_("bert", "/city/rights")[-3:], "401")
     same("people sign in", machine.form("bert", PASSWORDS["bert"]), "303")
-    judge("with their roles", "records-manager" in machine.as_("bert", "/city/rights"))
+    judge("with their roles", comes(lambda: "records-manager" in machine.as_("bert", "/city/rights"), 60))
     same("no key and no password is in a log", machine.run(
         f"grep -rlE '{PASSWORDS['bert']}|{machine.passwords['keeper']}|{READER_PASSWORD}' /var/log /var/lib/office-sign-in /run/office-sign-in-gates").out, "")
 
