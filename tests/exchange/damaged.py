@@ -16,6 +16,14 @@ def is_seen(bag: pathlib.Path) -> bool:
     return False
 
 
+def changes(data: bytes, at: int, is_last: bool) -> list[bytes]:
+    """Returns a file with a bit changed at a place, with a byte less and a byte more. What no other file vouches for is
+    changed in each bit."""
+    bits = [data[:at] + bytes([data[at] ^ 1 << bit]) + data[at + 1:] for bit in (range(8) if is_last else (at % 8,))]
+    moved = [data[:at] + data[at + 1:], data[:at] + b"a" + data[at:]] if is_last or at % 7 == 0 else []
+    return [each for each in (*bits, *moved) if each != data]
+
+
 def bytes_(folder: pathlib.Path) -> None:
     bag = tiny_bag(folder)
     judge("the bag as it is", not is_seen(bag))
@@ -24,13 +32,11 @@ def bytes_(folder: pathlib.Path) -> None:
         path = bag / name
         step = 97 if name in ("schema.json", "README.txt") else 1
         for at in range(0, len(data), step):
-            for changed in ((data[:at] + bytes([data[at] ^ 1 << at % 8]) + data[at + 1:]),
-                            *([data[:at] + data[at + 1:], data[:at] + b"a" + data[at:]] if at % 7 == 0 else [])):
-                if changed != data:
-                    path.write_bytes(changed)
-                    count += 1
-                    if not is_seen(bag):
-                        unseen.append((name, at))
+            for changed in changes(data, at, name == "tagmanifest-sha256.txt"):
+                path.write_bytes(changed)
+                count += 1
+                if not is_seen(bag):
+                    unseen.append((name, at))
         path.write_bytes(data)
     print(f"    changes: {count}")
     same("changes that are not seen", unseen, [])
