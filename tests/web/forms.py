@@ -57,7 +57,7 @@ return [...document.querySelectorAll("section:not([hidden]) select")].filter((it
   return it.selectedOptions.length > 0 && paint.measureText(it.selectedOptions[0].text).width > room;
 }).map((it) => it.id);
 """
-OFFERED = "return [...document.querySelector(arguments[0]).list.options].map((it) => it.value)"
+OFFERED = "return [...(document.querySelector(arguments[0]).list?.options ?? [])].map((it) => it.value)"
 WROTE = "const it = document.querySelector(arguments[0]); it.value = arguments[1]; it.dispatchEvent(new Event('input', { bubbles: true }));"
 
 
