@@ -49,7 +49,27 @@ def places(folder: pathlib.Path, bag: pathlib.Path) -> None:
     shutil.copytree(bag, place / "bag")
     (place / "bag/data/extra").write_bytes(b"")
     judge_refused("FOLDER has a file more", export(folder / "office.db", place / "bag"), "data/extra")
+    (place / "bag/data/extra").unlink()
+    with (place / "bag/data/records.jsonl").open("ab") as file:
+        file.write(b"x")
+    judge_refused("a file of FOLDER is longer", export(folder / "office.db", place / "bag"), "data/records.jsonl would be shorter")
     shutil.rmtree(place)
+    at_once(folder / "at once")
+
+
+def at_once(place: pathlib.Path) -> None:
+    """Somebody takes the name in the last moment: it stays theirs."""
+    from office_common.errors import Refused
+    from office_exchange import placing
+    place.mkdir()
+    (place / "new").write_bytes(b"ours")
+    (place / "name").write_bytes(b"theirs")
+    try:
+        placing.place(place / "new", place / "name")
+        judge("a name that somebody took is refused", False)
+    except Refused as refused:
+        judge("a name that somebody took is refused", "is there already" in str(refused), refused)
+    same("and is still theirs", files_in(place), {"new": b"ours", "name": b"theirs"})
 
 
 def copies(folder: pathlib.Path, file: pathlib.Path) -> None:
