@@ -141,7 +141,8 @@ class World:
         new.rename(self.folder / "office-access")
 
     def deciding(self) -> list[str]:
-        return [str(self.folder / it) for it in ("office-access", "office-token")]
+        """Returns the operands of an office that decides: its settings, its secret, and no journal of its own."""
+        return [*(str(self.folder / name) for name in ("office-access", "office-token")), "-"]
 
     def office_column(self, query: str) -> list[Any]:
         """Reads a copy of FILE and its log: each act that was answered is in it."""
