@@ -265,7 +265,10 @@ fn with_service_commands<'a>(alloc: Global, command: Command<'a>) -> Result<Comm
                     ),
                     Operand("ACCESS", "A file of settings: who may do what"),
                     Operand("TOKEN", "A file with the secret of the proxy"),
-                    Operand("JOURNAL", "A file for the lines of the journal, or - for none"),
+                    Operand(
+                        "JOURNAL",
+                        "A file for the lines of the journal, or - for none",
+                    ),
                 ],
             },
         ],
