@@ -146,7 +146,8 @@ def judge_journal(booted: "Booted") -> None:
                   ("success 0", "differences: 0"))
     place = "/var/cache/private/office-journal-check/town"
     done = booted.run(f"grep -c NEXT {JOURNAL}; find {place} -mindepth 1")
-    judge("systemd: the act is in the journal, and no copy is left", done.out == "1\n", done)
+    # the head is what the next seal names
+    judge("systemd: the act is in the journal, and no copy is left", done.out == f"1\n{place}/head\n", done)
 
 
 def judge_kept(booted: "Booted") -> None:
