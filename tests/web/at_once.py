@@ -35,8 +35,10 @@ MOST_CLICKS = 6
 # the forms for what is marked
 DEEDS = [
     *(f"{view}-record-{deed}" for view in ("due", "overdue") for deed in ("hold", "event", "review", "schedule")),
-    *(f"catalogue-record-{deed}" for deed in ("hold", "event", "review", "schedule", "receipt")),
+    *(f"catalogue-record-{deed}" for deed in ("confirm", "hold", "event", "review", "schedule", "receipt")),
     *(f"catalogue-aggregation-{deed}" for deed in ("hold", "close")),
+    # the form for the record that is shown
+    "record-misfiled",
 ]
 
 

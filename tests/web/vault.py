@@ -177,8 +177,8 @@ def looked(it: Browser, vault: Vault, numbers: dict[str, int]) -> None:
     it.press("#record-files .unlook")
     judge("it is taken away again", not it.all("#record-files .looked canvas"))
     it.open(f"{vault.proxy.page}#record?number={numbers['Straße 1.tif']}")
-    it.press("#record-files .vaulted button.quiet")
-    it.wait(lambda: FILES["noLook"] in it.seen("#record-files"), "a TIFF is shown")
+    says("a TIFF cannot be shown here", it.seen("#record-files"), TEXTS["content"]["unshown"])
+    judge("a TIFF has no button to look at it", not it.all("#record-files .vaulted button.quiet"))
 
 
 def compared(it: Browser, vault: Vault, files: dict[str, bytes], numbers: dict[str, int]) -> None:
