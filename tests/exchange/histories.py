@@ -16,8 +16,8 @@ from place import back, digest, export, files_in, names_in, rows
 
 HISTORIES = int(os.environ.get("HISTORIES", "2"))
 SCHEDULES = (("A1", "added", "years", 1, "none", "destroy"), ("C2", "closed", "months", 6, "month", "destroy"),
-             ("L1", "last-addition", "weeks", 9, "none", "destroy"), ("T1", "origin", "years", 2, "from-month-1", "transfer"),
-             ("R1", "review", "years", 1, "none", "review"), ("E1", "event", "days", 90, "quarter", "destroy"),
+             ("L1", "last-addition", "weeks", 9, "none", "destroy"), ("ORIGIN", "origin", "years", 2, "from-month-1", "transfer"),
+             ("REVIEW", "review", "years", 1, "none", "review"), ("E1", "event", "days", 90, "quarter", "destroy"),
              ("K", "added", "days", 0, "none", "keep"), ("N", "added", "days", 0, "none", "destroy"))
 TITLES = ("Akte", "Klasse \"ä\", 'x'", "日本 \u2028 \\n", "a;b,c|d", "\U0001f4c1 ordner", "x" * 200, " ", "-", "null", "é" * 100)
 Act = dict[str, Any]
